@@ -1,0 +1,11 @@
+pub mod SignLaws
+pub mod FiniteLaws
+pub mod NanLaws
+pub mod CastLaws
+pub mod CeilLaws
+pub mod ClosestLaws
+pub mod NarrowGrid
+pub mod NarrowPattern
+pub mod NarrowLaws
+pub mod TableLaws
+pub mod ExpLaws

@@ -1,0 +1,10 @@
+//! The oracle: document 01 written out in plain Rust, to compare answers with.
+
+pub mod axis_calls;
+pub mod command_line;
+pub mod number_vectors;
+pub mod numbers;
+pub mod random;
+pub mod rectangles;
+pub mod scroll_physics;
+pub mod words;
