@@ -1,6 +1,7 @@
 //! The oracle: document 01 written out in plain Rust, to compare answers with.
 
 pub mod axis_calls;
+pub mod axis_vectors;
 pub mod command_line;
 pub mod number_vectors;
 pub mod numbers;

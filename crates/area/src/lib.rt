@@ -1,0 +1,34 @@
+// A scroll area: its state, the frame that a host hands in, and the checks on both.
+mod checks;
+mod decode;
+mod frame;
+mod layout;
+mod state;
+
+pub use checks::frame_refusal;
+pub use checks::refusal_of;
+pub use checks::state_refusal;
+pub use decode::frame_of;
+pub use frame::BarResponse;
+pub use frame::Content;
+pub use frame::DragScroll;
+pub use frame::Frame;
+pub use frame::GivenOffset;
+pub use frame::Host;
+pub use frame::MaybeAlign;
+pub use frame::MaybeNumber;
+pub use frame::MaybePos2;
+pub use frame::MaybeScrollTarget;
+pub use frame::ScrollAnimation;
+pub use frame::ScrollBarVisibility;
+pub use frame::ScrollTarget;
+pub use frame::Settings;
+pub use frame::Style;
+pub use frame::TargetRequest;
+pub use state::MaybePress;
+pub use state::MaybeRect;
+pub use state::MaybeTarget;
+pub use state::OffsetTarget;
+pub use state::ScrollingToTarget;
+pub use state::StartOffset;
+pub use state::State;

@@ -1,0 +1,2 @@
+pub mod ExtentLaws
+pub mod LimitLaws

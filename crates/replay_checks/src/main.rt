@@ -1,0 +1,43 @@
+// Runs checks 1 to 6 on stored frames and states and prints each answer. A record on standard input is a word,
+// the frame's length; 424 bytes that begin with the frame; and the state, 37 words in the order of its fields,
+// an f64 as low word and high word, an option as a flag and its words. What is printed is held to the answers
+// of an independent program (oracle/).
+mod stored_state;
+
+use libc::STDIN_FILENO;
+use libc::STDOUT_FILENO;
+use stored_state::state_of;
+
+// Runs one record, and says whether there was one.
+fn replay_one() -> bool {
+    let mut record = [0u8; 576];
+    if io::read_full(STDIN_FILENO, &mut record) < 576 {
+        return false;
+    }
+    let refusal = refusal_of_record(&record);
+    io::print_decimal(STDOUT_FILENO, refusal as u64);
+    io::write_all(STDOUT_FILENO, b"\n")
+}
+
+fn refusal_of_record(record: &[u8; 576]) -> u32 {
+    let state = state_of(record);
+    let length = words::word(record, 0) as usize;
+    if 424 < length {
+        return 1;
+    }
+    let end = 4 + length;
+    area::refusal_of(&record[4..end], state)
+}
+
+// A proved loop has to end, and nothing says that the input does: it counts down from a number that
+// no run uses up.
+fn replay_all() {
+    let mut turns = u64::MAX;
+    while turns > 0 && replay_one() {
+        turns -= 1;
+    }
+}
+
+fn main() {
+    replay_all();
+}
