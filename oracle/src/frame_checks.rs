@@ -76,7 +76,7 @@ fn kinds_hold(frame: &[u8]) -> bool {
 
 /// Not-a-number and both infinities are outside.
 fn is_within_limit(x: f32) -> bool {
-    -LIMIT <= x && x <= LIMIT
+    (-LIMIT..=LIMIT).contains(&x)
 }
 
 /// Check 3: "finite, magnitude at most 1,048,576".
@@ -112,7 +112,7 @@ fn unbounded_numbers_hold(frame: &[u8]) -> bool {
 fn time_holds(frame: &[u8]) -> bool {
     let (low, high) = (word(frame, 52), word(frame, 53));
     let time = f64::from_bits(u64::from(high) << 32 | u64::from(low));
-    0.0 <= time && time <= LATEST
+    (0.0..=LATEST).contains(&time)
 }
 
 /// Check 4: "end not below start", each end with its start.
@@ -137,16 +137,14 @@ fn signs_hold(frame: &[u8]) -> bool {
 /// Check 4: "from 0 to 1".
 fn factors_hold(frame: &[u8]) -> bool {
     let factors = [66, 67, 68, 69, 70, 71];
-    factors.iter().all(|n| {
-        let x = float(frame, *n);
-        0.0 <= x && x <= 1.0
-    })
+    let mut values = factors.iter().map(|n| float(frame, *n));
+    values.all(|x| (0.0..=1.0).contains(&x))
 }
 
 /// Check 5: "37 from 1/1,024 to 1,024; 38 not negative".
 fn kinetics_hold(frame: &[u8]) -> bool {
     let (decay_time, stop_distance) = (float(frame, 37), float(frame, 38));
-    1.0 / 1024.0 <= decay_time && decay_time <= 1024.0 && 0.0 <= stop_distance
+    (1.0 / 1024.0..=1024.0).contains(&decay_time) && 0.0 <= stop_distance
 }
 
 /// Check 5: "88, 95 if 91, 102 if 98 above 0"; neither zero is above 0.

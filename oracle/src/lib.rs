@@ -3,6 +3,9 @@
 pub mod axis_calls;
 pub mod axis_vectors;
 pub mod command_line;
+pub mod frame_checks;
+pub mod frame_state;
+pub mod frame_vectors;
 pub mod number_vectors;
 pub mod numbers;
 pub mod random;

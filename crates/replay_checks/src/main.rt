@@ -19,14 +19,14 @@ fn replay_one() -> bool {
     io::write_all(STDOUT_FILENO, b"\n")
 }
 
-fn refusal_of_record(record: &[u8; 576]) -> u32 {
-    let state = state_of(record);
+// A length past the record is a frame of the wrong length too.
+fn refusal_of_record(record: &[u8]) -> u32 {
     let length = words::word(record, 0) as usize;
-    if 424 < length {
+    let end = 4 + length;
+    if record.len() < end {
         return 1;
     }
-    let end = 4 + length;
-    area::refusal_of(&record[4..end], state)
+    area::refusal_of(&record[4..end], state_of(record))
 }
 
 // A proved loop has to end, and nothing says that the input does: it counts down from a number that

@@ -1,0 +1,83 @@
+//! The shape of the frame calls, and what they meet.
+
+use oracle::frame_state::State;
+use oracle::frame_vectors::{bare, fixed_list, full, random_list, Call};
+
+/// The words of a record, from their bytes.
+fn words_of(record: &[u8]) -> Vec<u32> {
+    let word = |part: &[u8]| u32::from_le_bytes(part.try_into().expect("four bytes"));
+    record.chunks(4).map(word).collect()
+}
+
+#[test]
+fn every_record_has_576_bytes_and_begins_with_the_length() {
+    for call in fixed_list().iter().chain(&random_list(1, 1000)) {
+        let record = call.input_record();
+        assert_eq!(record.len(), 576);
+        let length = words_of(&record)[0] as usize;
+        assert!(length <= 424);
+        assert!(record[4 + length..428].iter().all(|byte| *byte == 0));
+        // The length alone decides about 1, whatever the bytes are.
+        assert_eq!(length != 416, call.refusal() == 1);
+    }
+}
+
+#[test]
+fn the_first_record_is_the_bare_frame_with_a_fresh_state() {
+    let words = words_of(&fixed_list()[0].input_record());
+    assert_eq!(words[0], 416);
+    assert_eq!(words[1..105], words_of(&bare().bytes()));
+    assert_eq!(words[105..107], [0, 0]);
+    assert_eq!(words[107..], State::default().record());
+}
+
+#[test]
+fn every_line_is_one_digit() {
+    for call in fixed_list().iter().chain(&random_list(1, 1000)) {
+        assert_eq!(call.output_line(), format!("{}\n", call.refusal()));
+        assert_eq!(call.output_line().len(), 2);
+    }
+}
+
+#[test]
+fn the_fixed_list_has_its_size_and_repeats_no_record() {
+    let list = fixed_list();
+    assert!((1400..=1600).contains(&list.len()), "{} calls", list.len());
+    let mut records: Vec<Vec<u8>> = list.iter().map(Call::input_record).collect();
+    records.sort();
+    for pair in records.windows(2) {
+        assert_ne!(pair[0], pair[1]);
+    }
+}
+
+#[test]
+fn every_refusal_is_met() {
+    for (list, least) in [(fixed_list(), 40), (random_list(1, 30_000), 500)] {
+        for refusal in 0..=6 {
+            let met = list.iter().filter(|call| call.refusal() == refusal);
+            assert!(met.count() >= least, "{refusal}");
+        }
+    }
+}
+
+/// For each word, some refused call differs from the full frame there and nowhere else.
+#[test]
+fn every_word_of_the_full_frame_is_refused_by_itself() {
+    let good = words_of(&full().bytes());
+    let calls: Vec<(Vec<u32>, u32)> = fixed_list()
+        .iter()
+        .map(|call| (words_of(&call.input_record()), call.refusal()))
+        .filter(|(words, refusal)| words[0] == 416 && (2..=5).contains(refusal))
+        .collect();
+    // The low word of a time in range cannot leave the range alone.
+    for word in (1..=104).filter(|word| *word != 52) {
+        let differs_there = |words: &Vec<u32>| {
+            let differing = (1..=104).filter(|n| words[*n] != good[n - 1]);
+            differing.eq([word])
+        };
+        assert!(
+            calls.iter().any(|(words, _)| differs_there(words)),
+            "{word}"
+        );
+    }
+}
