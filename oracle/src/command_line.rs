@@ -42,3 +42,22 @@ impl Request {
         fs::write(&self.output, lines).expect("the output is written");
     }
 }
+
+/// Writes the list that the arguments ask for, and hands it back.
+pub fn write_list<C>(
+    program: &str,
+    fixed: fn() -> Vec<C>,
+    random: fn(u64, usize) -> Vec<C>,
+    record: fn(&C) -> Vec<u8>,
+    line: fn(&C) -> String,
+) -> Vec<C> {
+    let request = Request::read(program);
+    let list = match request.random {
+        None => fixed(),
+        Some((seed, count)) => random(seed, count),
+    };
+    let records: Vec<u8> = list.iter().flat_map(record).collect();
+    let lines: String = list.iter().map(line).collect();
+    request.write(&records, &lines);
+    list
+}

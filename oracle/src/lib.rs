@@ -3,7 +3,14 @@
 pub mod axis_calls;
 pub mod axis_vectors;
 pub mod command_line;
+pub mod frame;
+pub mod frame_begin;
+pub mod frame_call;
 pub mod frame_checks;
+pub mod frame_end;
+pub mod frame_end_bars;
+pub mod frame_end_targets;
+pub mod frame_end_wheel;
 pub mod frame_state;
 pub mod frame_vectors;
 pub mod number_vectors;

@@ -1,5 +1,7 @@
 //! Points, rectangles and alignments, after document 01, section "Numbers".
 
+use std::ops::{Index, IndexMut};
+
 use crate::numbers::{max, min};
 
 /// A point, as emath's type of that name.
@@ -7,6 +9,25 @@ use crate::numbers::{max, min};
 pub struct Pos2 {
     pub x: f32,
     pub y: f32,
+}
+
+/// The part along axis d, as emath has it.
+impl Index<usize> for Pos2 {
+    type Output = f32;
+
+    fn index(&self, d: usize) -> &f32 {
+        [&self.x, &self.y][d]
+    }
+}
+
+impl IndexMut<usize> for Pos2 {
+    fn index_mut(&mut self, d: usize) -> &mut f32 {
+        match d {
+            0 => &mut self.x,
+            1 => &mut self.y,
+            _ => panic!("a point has two parts"),
+        }
+    }
 }
 
 /// A rectangle, as emath's type of that name.
@@ -26,9 +47,21 @@ impl Rect {
         Rect { min, max }
     }
 
+    pub fn from_min_max(min: Pos2, max: Pos2) -> Rect {
+        Rect { min, max }
+    }
+
     /// Document 01: "its size is max - min, rounded again."
     pub fn size(self) -> [f32; 2] {
         [self.max.x - self.min.x, self.max.y - self.min.y]
+    }
+
+    pub fn width(self) -> f32 {
+        self.max.x - self.min.x
+    }
+
+    pub fn height(self) -> f32 {
+        self.max.y - self.min.y
     }
 
     /// Document 01: "An intersection takes the max of the mins and the min of the maxes."

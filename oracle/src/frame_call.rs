@@ -1,0 +1,143 @@
+//! The frame call: the checks around `begin` and `end`, and the lines that show its answer.
+
+use crate::frame::Fields;
+use crate::frame_begin::begin;
+use crate::frame_checks::{frame_refusal, LENGTH};
+use crate::frame_end::end;
+use crate::frame_state::State;
+use crate::rectangles::{Pos2, Rect};
+use crate::words::in_hex;
+
+/// The answer of a frame call; on a refusal the state is the one given and the rest is zeros.
+#[derive(Clone, Copy, Debug, PartialEq)]
+pub struct Output {
+    pub refusal: u32,
+    pub state: State,
+    pub content_size: [f32; 2],
+    /// The one of `begin`.
+    pub inner_rect: Rect,
+    pub viewport: Rect,
+    pub handle_rects: [Option<Rect>; 2],
+    pub wheel_delta_left: [f32; 2],
+    pub scroll_delta_left: [f32; 2],
+    pub repaint: bool,
+}
+
+/// One frame on a state by value.
+pub fn frame_call(state: State, bytes: &[u8]) -> Output {
+    let refusal = match frame_refusal(bytes) {
+        0 => state.refusal(),
+        refusal => refusal,
+    };
+    if refusal != 0 {
+        return Output::refused(refusal, state);
+    }
+    let frame = Fields::of(bytes);
+    let prepared = begin(state, &frame);
+    let (inner_rect, viewport) = (prepared.inner_rect, prepared.viewport);
+    let Ok(ended) = end(prepared, &frame) else {
+        return Output::refused(7, state);
+    };
+    let output = Output {
+        refusal: 0,
+        state: ended.state,
+        content_size: ended.content_size,
+        inner_rect,
+        viewport,
+        handle_rects: ended.handle_rects,
+        wheel_delta_left: ended.wheel_delta_left,
+        scroll_delta_left: ended.scroll_delta_left,
+        repaint: ended.repaint,
+    };
+    if output.is_finite() {
+        output
+    } else {
+        Output::refused(8, state)
+    }
+}
+
+/// Frames one after another, from a fresh state; a shorter last part is a frame too.
+pub fn run(bytes: &[u8]) -> impl Iterator<Item = Output> + '_ {
+    bytes.chunks(LENGTH).scan(State::default(), |state, frame| {
+        let output = frame_call(*state, frame);
+        *state = output.state;
+        Some(output)
+    })
+}
+
+impl Output {
+    fn refused(refusal: u32, state: State) -> Output {
+        let origin = Pos2 { x: 0.0, y: 0.0 };
+        let nowhere = Rect::from_min_max(origin, origin);
+        Output {
+            refusal,
+            state,
+            content_size: [0.0; 2],
+            inner_rect: nowhere,
+            viewport: nowhere,
+            handle_rects: [None; 2],
+            wheel_delta_left: [0.0; 2],
+            scroll_delta_left: [0.0; 2],
+            repaint: false,
+        }
+    }
+
+    /// Document 01: "A number among the outputs is not finite: 8"; the state's are those of check 6.
+    fn is_finite(&self) -> bool {
+        let handles = self.handle_rects.iter().flatten();
+        let rects = [self.inner_rect, self.viewport];
+        let corners = rects.iter().chain(handles).flat_map(corners);
+        let pairs = [
+            self.content_size,
+            self.wheel_delta_left,
+            self.scroll_delta_left,
+        ];
+        let mut numbers = corners.chain(pairs.into_iter().flatten());
+        self.state.refusal() == 0 && numbers.all(f32::is_finite)
+    }
+
+    /// Document 01's line of the listing.
+    pub fn listing_line(&self) -> String {
+        let State { offset, vel, .. } = self.state;
+        let numbers = in_hex(
+            &[offset, vel]
+                .concat()
+                .iter()
+                .map(|x| x.to_bits())
+                .collect::<Vec<_>>(),
+        );
+        let [across, down] = self.state.scroll_stuck_to_end.map(u32::from);
+        format!("{}{numbers} {across}{down}\n", self.refusal)
+    }
+
+    /// The refusal, the 37 words of the state, then the 25 words of the other outputs.
+    pub fn full_line(&self) -> String {
+        let state = in_hex(&self.state.record());
+        format!("{}{state}{}\n", self.refusal, in_hex(&self.record()))
+    }
+
+    /// The outputs other than refusal and state: an option is a flag, then its words or zeros.
+    pub fn record(&self) -> [u32; 25] {
+        let pair = |pair: [f32; 2]| pair.map(f32::to_bits).to_vec();
+        let rect = |rect: Rect| corners(&rect).map(f32::to_bits).to_vec();
+        let option = |handle: Option<Rect>| match handle {
+            Some(handle) => [vec![1], rect(handle)].concat(),
+            None => vec![0; 5],
+        };
+        let fields = [
+            pair(self.content_size),
+            rect(self.inner_rect),
+            rect(self.viewport),
+            option(self.handle_rects[0]),
+            option(self.handle_rects[1]),
+            pair(self.wheel_delta_left),
+            pair(self.scroll_delta_left),
+            vec![u32::from(self.repaint)],
+        ];
+        fields.concat().try_into().expect("25 words")
+    }
+}
+
+fn corners(rect: &Rect) -> [f32; 4] {
+    [rect.min.x, rect.min.y, rect.max.x, rect.max.y]
+}
