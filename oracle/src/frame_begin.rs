@@ -1,5 +1,7 @@
 //! egui's `ScrollArea::begin`, in its order and under its names, on the fields of a frame.
 
+#![expect(clippy::needless_range_loop)] // the loops are the Rust's
+
 use std::array::from_fn;
 
 use crate::frame::{DragScroll, Fields, ScrollBarVisibility};

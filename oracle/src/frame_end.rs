@@ -1,11 +1,13 @@
 //! egui's `Prepared::end`, in its order and under its names, on the fields of a frame.
 
+#![expect(clippy::needless_range_loop)] // the loops are the Rust's
+
 use std::array::from_fn;
 
 use crate::frame::{Fields, ScrollBarVisibility};
 use crate::frame_begin::Prepared;
 use crate::frame_end_bars::{bars, ClampPanics};
-use crate::frame_end_targets::take_targets_and_deltas;
+use crate::frame_end_targets::{take_targets_and_deltas, Taken};
 use crate::frame_end_wheel::wheel;
 use crate::frame_state::State;
 use crate::numbers::{ceil, max, min};
@@ -38,38 +40,16 @@ pub struct Measures {
 /// The second half of a frame.
 pub fn end(mut prepared: Prepared, frame: &Fields) -> Result<Ended, ClampPanics> {
     let taken = take_targets_and_deltas(&mut prepared, frame);
-    let had_explicit_scroll_adjustment = taken.had_explicit_scroll_adjustment;
-
     let measures = Measures::of(&prepared, frame);
     let wheel_delta_left = wheel(&mut prepared, frame, &measures);
 
-    let show_scroll_this_frame = match frame.settings.scroll_bar_visibility {
-        ScrollBarVisibility::AlwaysHidden => [false; 2],
-        ScrollBarVisibility::VisibleWhenNeeded => measures.content_is_too_large,
-        ScrollBarVisibility::AlwaysVisible => frame.settings.direction_enabled,
-    };
-    for d in 0..2 {
-        if show_scroll_this_frame[d] && prepared.show_bars_factor[d] <= 0.0 {
-            prepared.show_bars_factor[d] = frame.host.bar_factors_on_opening[d];
-        }
-    }
-
-    let handle_rects = bars(
-        &mut prepared,
-        frame,
-        &measures,
-        had_explicit_scroll_adjustment,
-    )?;
+    let show_scroll_this_frame = open_bars(&mut prepared, frame, &measures);
+    let handle_rects = bars(&mut prepared, frame, &measures, &taken)?;
 
     if show_scroll_this_frame != prepared.state.show_scroll {
         prepared.repaint = true;
     }
-    clamp_and_stick(
-        &mut prepared,
-        frame,
-        &measures,
-        had_explicit_scroll_adjustment,
-    );
+    clamp_and_stick(&mut prepared, frame, &measures, &taken);
 
     let mut state = prepared.state;
     state.show_scroll = show_scroll_this_frame;
@@ -130,12 +110,22 @@ fn inner_rect(prepared: &Prepared, frame: &Fields) -> Rect {
     Rect::from_min_size(prepared.inner_rect.min, inner_size)
 }
 
-fn clamp_and_stick(
-    prepared: &mut Prepared,
-    frame: &Fields,
-    measures: &Measures,
-    had_explicit_scroll_adjustment: [bool; 2],
-) {
+/// Which bars are to show in this frame; one that was gone has the factor on opening.
+fn open_bars(prepared: &mut Prepared, frame: &Fields, measures: &Measures) -> [bool; 2] {
+    let show_scroll_this_frame = match frame.settings.scroll_bar_visibility {
+        ScrollBarVisibility::AlwaysHidden => [false; 2],
+        ScrollBarVisibility::VisibleWhenNeeded => measures.content_is_too_large,
+        ScrollBarVisibility::AlwaysVisible => frame.settings.direction_enabled,
+    };
+    for d in 0..2 {
+        if show_scroll_this_frame[d] && prepared.show_bars_factor[d] <= 0.0 {
+            prepared.show_bars_factor[d] = frame.host.bar_factors_on_opening[d];
+        }
+    }
+    show_scroll_this_frame
+}
+
+fn clamp_and_stick(prepared: &mut Prepared, frame: &Fields, measures: &Measures, taken: &Taken) {
     let state = &mut prepared.state;
     let stick_to_end = frame.settings.stick_to_end;
     let inner_size = measures.inner_rect.size();
@@ -148,7 +138,7 @@ fn clamp_and_stick(
     state.max_offset = available_offset;
 
     let suppress_stuck_recompute: [bool; 2] =
-        from_fn(|d| had_explicit_scroll_adjustment[d] && state.offset_target[d].is_some());
+        from_fn(|d| taken.had_explicit_scroll_adjustment[d] && state.offset_target[d].is_some());
 
     state.scroll_stuck_to_end = from_fn(|d| {
         !suppress_stuck_recompute[d]

@@ -1,8 +1,11 @@
 //! The part of egui's `Prepared::end` about the bars: sticking, handles and presses.
 
+#![expect(clippy::needless_range_loop)] // the loop is the Rust's
+
 use crate::frame::Fields;
 use crate::frame_begin::Prepared;
 use crate::frame_end::Measures;
+use crate::frame_end_targets::Taken;
 use crate::numbers::{clamp, lerp, max, remap, remap_clamp, Rangef};
 use crate::rectangles::{Pos2, Rect};
 use crate::scroll_physics::scroll_bounds;
@@ -16,14 +19,14 @@ pub fn bars(
     prepared: &mut Prepared,
     frame: &Fields,
     measures: &Measures,
-    had_explicit_scroll_adjustment: [bool; 2],
+    taken: &Taken,
 ) -> Result<[Option<Rect>; 2], ClampPanics> {
     let mut handle_rects = [None; 2];
     for d in 0..2 {
         let state = &mut prepared.state;
         if frame.settings.stick_to_end[d]
             && state.scroll_stuck_to_end[d]
-            && !had_explicit_scroll_adjustment[d]
+            && !taken.had_explicit_scroll_adjustment[d]
         {
             state.offset[d] = measures.content_size[d] - measures.inner_rect.size()[d];
         }
@@ -76,6 +79,7 @@ impl Bar {
         }
     }
 
+    #[expect(clippy::wrong_self_convention)] // the name is the Rust's
     fn from_content(&self, content: f32) -> f32 {
         let (d, bar) = (self.d, self.scroll_bar_rect);
         remap_clamp(content, 0.0, self.content_size[d], bar.min[d], bar.max[d])

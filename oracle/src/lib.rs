@@ -17,5 +17,6 @@ pub mod number_vectors;
 pub mod numbers;
 pub mod random;
 pub mod rectangles;
+pub mod scenes;
 pub mod scroll_physics;
 pub mod words;

@@ -1,6 +1,25 @@
--- The state and its readers; the frame's words and what they stand for; the checks.
+-- The state and its readers; the frame's words and what they stand for; the checks; then `begin` and `end`, stage by stage in the
+-- order of the Rust; the frame call.
 pub mod Pair
 pub mod State
 pub mod Layout
 pub mod Frame
 pub mod Checks
+pub mod Geometry
+pub mod AxisPhysics
+pub mod Space
+pub mod Drive
+pub mod Follow
+pub mod Begin
+pub mod Adjust
+pub mod Extent
+pub mod WheelTurn
+pub mod Stick
+pub mod Handle
+pub mod Press
+pub mod Bar
+pub mod Settle
+pub mod End
+pub mod Outcome
+pub mod PutOut
+pub mod Call

@@ -164,7 +164,7 @@ pub fn is_state_finite(state: State) -> bool
         & is_rect_finite(rect)
 }
 
-fn is_pair_finite(v: [f32; 2]) -> bool
+pub fn is_pair_finite(v: [f32; 2]) -> bool
     ensures { λ r. ⌜ r ≡ Spec.isPairFinite v ⌝ }
 {
     is_finite(v[0]) & is_finite(v[1])
@@ -204,7 +204,7 @@ fn is_press_finite(p: StartOffset) -> bool
     }
 }
 
-fn is_rect_finite(r: MaybeRect) -> bool
+pub fn is_rect_finite(r: MaybeRect) -> bool
     ensures { λ b. ⌜ b ≡ Spec.isRectFinite r ⌝ }
 {
     match r {

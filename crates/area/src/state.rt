@@ -129,7 +129,8 @@ impl State {
     }
 }
 
-fn clamped(offset: f32, max_offset: f32) -> f32
+// The nearest valid offset.
+pub fn clamped(offset: f32, max_offset: f32) -> f32
     ensures { λ r. ⌜ r ≡ Spec.clampedTo offset «max_offset» ⌝ }
 {
     scroll_bounds(max_offset).clamp(offset)

@@ -9,7 +9,7 @@ mod fixed_wheel;
 mod fixed_wheel_edges;
 mod place;
 mod random;
-mod random_numbers;
+pub(crate) mod random_numbers;
 mod scene;
 mod tally;
 

@@ -1,3 +1,7 @@
+//! Writes axis calls of a host, and the answers that document 01 gives them; counts the refusals.
+//!
+//! `axis_vectors INPUT OUTPUT` writes the fixed list, `axis_vectors INPUT OUTPUT SEED COUNT` a random one.
+
 use oracle::axis_vectors::{fixed_list, random_list, tally, Call};
 use oracle::command_line::write_list;
 

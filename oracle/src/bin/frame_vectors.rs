@@ -1,3 +1,7 @@
+//! Writes frames and states for checks 1 to 6, and the answers that document 01 gives them; counts the refusals.
+//!
+//! `frame_vectors INPUT OUTPUT` writes the fixed list, `frame_vectors INPUT OUTPUT SEED COUNT` a random one.
+
 use oracle::command_line::write_list;
 use oracle::frame_vectors::{fixed_list, random_list, tally, Call};
 

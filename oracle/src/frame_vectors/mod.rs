@@ -10,9 +10,9 @@ mod fixed_ranges;
 mod fixed_states;
 mod frame;
 mod good;
-mod places;
+pub(crate) mod places;
 mod random;
-mod random_words;
+pub(crate) mod random_words;
 mod states;
 mod tally;
 

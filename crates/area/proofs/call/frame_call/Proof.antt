@@ -1,0 +1,35 @@
+use borrow.Author.Needs.{needs}
+use Rattle.area.specs.Call.{callOf}
+use Rattle.area.proofs.call.frame_call.Statement.{statement}
+use Rattle.area.proofs.call.frame_call.Tie as tie
+
+refusal-of-requires : tie.Need-refusal-of-requires
+refusal-of-requires c κs = search needs
+
+frame-of-requires : tie.Need-frame-of-requires
+frame-of-requires c κs = search needs
+
+run-requires : tie.Need-run-requires
+run-requires c κs = search needs
+
+returns : tie.Need-returns
+unfolding callOf
+returns c = rw (← c .before .before .before .refusal-of .ensures, c .before .before .if1 .taken, ← c .before .frame-of .ensures, ← c .run .ensures)
+
+refused-requires : tie.Need-refused-requires
+refused-requires c κs = search needs
+
+returns-2 : tie.Need-returns-2
+unfolding callOf
+returns-2 c = rw (← c .before .before .refusal-of .ensures, c .before .if1 .left, ← c .refused .ensures)
+
+pub frame-call-spec : {M : Type 1} → statement M
+frame-call-spec =
+    tie.close
+    (tie.spec
+    refusal-of-requires
+    frame-of-requires
+    run-requires
+    returns
+    refused-requires
+    returns-2)

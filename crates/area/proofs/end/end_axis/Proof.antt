@@ -1,0 +1,21 @@
+use borrow.Author.Needs.{needs}
+use Rattle.area.specs.End.{axisEndedOf}
+use Rattle.area.proofs.end.end_axis.Statement.{statement}
+use Rattle.area.proofs.end.end_axis.Tie as tie
+
+adjust-axis-requires : tie.Need-adjust-axis-requires
+adjust-axis-requires c κs = search needs
+
+turn-axis-requires : tie.Need-turn-axis-requires
+turn-axis-requires c κs = search needs
+
+finish-axis-requires : tie.Need-finish-axis-requires
+finish-axis-requires c κs = search needs
+
+returns : tie.Need-returns
+unfolding axisEndedOf
+returns c = rw (← c .before .before .adjust-axis .ensures, ← c .before .turn-axis .ensures, ← c .finish-axis .ensures)
+
+pub end-axis-spec : {M : Type 1} → statement M
+end-axis-spec =
+    tie.close (tie.spec adjust-axis-requires turn-axis-requires finish-axis-requires returns)

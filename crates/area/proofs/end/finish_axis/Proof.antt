@@ -1,0 +1,54 @@
+use borrow.Author.Needs.{needs}
+use Rattle.area.specs.End.{finishedOf}
+use Rattle.area.proofs.end.finish_axis.Statement.{statement}
+use Rattle.area.proofs.end.finish_axis.Tie as tie
+
+element-copy-out-sticks : tie.Need-element-copy-out-sticks
+element-copy-out-sticks c = search needs
+
+element-copy-out-enabled : tie.Need-element-copy-out-enabled
+element-copy-out-enabled c = search needs
+
+mul-stored : tie.Need-mul-stored
+mul-stored c = search needs
+
+element-copy-out-stored : tie.Need-element-copy-out-stored
+element-copy-out-stored c = search needs
+
+shows-bar-requires : tie.Need-shows-bar-requires
+shows-bar-requires c κs = search needs
+
+stick-axis-requires : tie.Need-stick-axis-requires
+stick-axis-requires c κs = search needs
+
+bar-space-of-requires : tie.Need-bar-space-of-requires
+bar-space-of-requires c κs = search needs
+
+bar-axis-requires : tie.Need-bar-axis-requires
+bar-axis-requires c κs = search needs
+
+settle-axis-requires : tie.Need-settle-axis-requires
+settle-axis-requires c κs = search needs
+
+ended-of-requires : tie.Need-ended-of-requires
+ended-of-requires c κs = search needs
+
+returns : tie.Need-returns
+unfolding finishedOf
+returns c = rw (← c .before .before .before .before .before .shows-bar .ensures, ← c .before .before .before .before .stick-axis .ensures, ← c .before .before .before .bar-space-of .ensures, ← c .before .before .bar-axis .ensures, ← c .before .settle-axis .ensures, ← c .ended-of .ensures)
+
+pub finish-axis-spec : {M : Type 1} → statement M
+finish-axis-spec =
+    tie.close
+    (tie.spec
+    element-copy-out-sticks
+    element-copy-out-enabled
+    mul-stored
+    element-copy-out-stored
+    shows-bar-requires
+    stick-axis-requires
+    bar-space-of-requires
+    bar-axis-requires
+    settle-axis-requires
+    ended-of-requires
+    returns)

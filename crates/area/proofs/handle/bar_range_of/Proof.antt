@@ -1,0 +1,35 @@
+use borrow.Author.Needs.{needs}
+use Rattle.area.specs.Handle.{barRangeOf}
+use Rattle.area.proofs.handle.bar_range_of.Statement.{statement}
+use Rattle.area.proofs.handle.bar_range_of.Tie as tie
+
+enum-told : tie.Need-enum-told
+enum-told c = search needs
+
+enum-known-scroll-bar-rect : tie.Need-enum-known-scroll-bar-rect
+enum-known-scroll-bar-rect c = search needs
+
+along-requires : tie.Need-along-requires
+along-requires c κs = search needs
+
+along-requires-2 : tie.Need-along-requires-2
+along-requires-2 c κs = search needs
+
+returns : tie.Need-returns
+unfolding barRangeOf
+returns c = rw (c .enum-told .given .1)
+
+returns-2 : tie.Need-returns-2
+unfolding barRangeOf
+returns-2 c = rw (c .before .before .before .scroll-bar-rect .given .1, ← c .before .along .ensures, ← c .along2 .ensures)
+
+pub bar-range-of-spec : {M : Type 1} → statement M
+bar-range-of-spec =
+    tie.close
+    (tie.spec
+    enum-told
+    enum-known-scroll-bar-rect
+    along-requires
+    along-requires-2
+    returns
+    returns-2)

@@ -1,0 +1,42 @@
+// The frame call.
+ghost use mathlib.Core.Path.{_≡_};
+ghost use Rattle.area.specs.Call as Spec;
+use crate::begin::begin;
+use crate::checks::refusal_of;
+use crate::decode::frame_of;
+use crate::end::end;
+use crate::end::is_press_blocked;
+use crate::frame::Frame;
+use crate::outcome::Answer;
+use crate::outcome::is_answer_finite;
+use crate::outcome::refused;
+use crate::put_out::answer_of;
+use crate::state::State;
+
+// One frame on a state: the checks, then both halves. A refusal hands the state back as given.
+pub fn frame_call(state: State, bytes: &[u8]) -> Answer
+    ensures { λ r. ⌜ r ≡ Spec.callOf state (now (bytes .entry)) ⌝ }
+{
+    let refusal = refusal_of(bytes, state);
+    let accepted = refusal == 0;
+    if accepted {
+        return run(state, frame_of(bytes));
+    }
+    refused(state, refusal)
+}
+
+// `begin`, then `end`; 7 goes before 8.
+fn run(state: State, frame: Frame) -> Answer
+    ensures { λ r. ⌜ r ≡ Spec.runOf state frame ⌝ }
+{
+    let prepared = begin(frame, state);
+    let ended = end(frame, state, prepared);
+    if is_press_blocked(ended) {
+        return refused(state, 7);
+    }
+    let answer = answer_of(frame, state, prepared, ended);
+    if is_answer_finite(answer) {
+        return answer;
+    }
+    refused(state, 8)
+}

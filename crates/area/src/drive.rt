@@ -1,0 +1,123 @@
+// How a frame begins to move one axis: the host's explicit offset, then the hand on the content or the axis's own motion.
+ghost use mathlib.Core.Path.{_≡_};
+ghost use Prim.Native.Nat.{_<_};
+ghost use Rattle.area.specs.Drive as Spec;
+use crate::frame::GivenOffset;
+use crate::frame::MaybeNumber;
+use crate::frame::Settings;
+use crate::prepared::AxisBegun;
+use crate::prepared::AxisMotion;
+use crate::state::MaybeTarget;
+use crate::state::OffsetTarget;
+use crate::state::State;
+use axis::AxisPhysics;
+use numbers::flag_as_number;
+
+// What the hand does on one axis. It drags, or has just let go, only where there is a response to a drag of the background.
+pub struct AxisInput {
+    pub direction_enabled: bool,
+    pub dragged: bool,
+    pub drag_stopped: bool,
+    pub pointer_delta: f32,
+    pub pointer_velocity: f32,
+    pub dt: f32,
+    pub hold_overscroll: bool,
+}
+
+// The motion of axis d, from where the host puts it.
+pub fn open_motion(settings: Settings, state: State, d: usize) -> AxisMotion
+    requires { ⌜ d < 2 ⌝ }
+    ensures { λ r. ⌜ r ≡ Spec.openedOf settings state d ⌝ }
+{
+    let given = settings.offset[d];
+    let stored = state.offset[d];
+    let vel = state.vel[d];
+    let offset_target = state.offset_target[d];
+    let scroll_stuck_to_end = state.scroll_stuck_to_end[d];
+    let offset = given_offset_or(given, stored);
+    AxisMotion {
+        offset,
+        vel,
+        offset_target,
+        scroll_stuck_to_end,
+    }
+}
+
+// The host's offset wins over the stored one.
+fn given_offset_or(given: GivenOffset, offset: f32) -> f32
+    ensures { λ r. ⌜ r ≡ Spec.givenOffsetOr given offset ⌝ }
+{
+    let number = given.number;
+    match number {
+        MaybeNumber::Nothing => offset,
+        MaybeNumber::Some(x) => x,
+    }
+}
+
+// The content goes with the hand; let alone, it coasts or springs back.
+pub fn drive(motion: AxisMotion, physics: AxisPhysics, input: AxisInput) -> AxisBegun
+    ensures { λ r. ⌜ r ≡ Spec.drivenOf motion physics input ⌝ }
+{
+    if input.dragged {
+        return drag_axis(motion, physics, input);
+    }
+    step_axis(motion, physics, input)
+}
+
+// A drag ends a target under way and the sticking, but keeps the velocity.
+fn drag_axis(motion: AxisMotion, physics: AxisPhysics, input: AxisInput) -> AxisBegun
+    ensures { λ r. ⌜ r ≡ Spec.draggedOf motion physics input ⌝ }
+{
+    if input.direction_enabled {
+        // The offset grows as the pointer goes back.
+        let offset = physics.drag(motion.offset, -input.pointer_delta);
+        let rubber_banding = physics.is_rubber_banding(offset);
+        return AxisBegun {
+            motion: AxisMotion {
+                offset,
+                vel: motion.vel,
+                offset_target: OffsetTarget {
+                    target: MaybeTarget::Nothing,
+                },
+                scroll_stuck_to_end: false,
+            },
+            rubber_banding,
+            repaint: false,
+        };
+    }
+    AxisBegun {
+        motion,
+        rubber_banding: false,
+        repaint: false,
+    }
+}
+
+// Both axes step, also one that is not enabled.
+fn step_axis(motion: AxisMotion, physics: AxisPhysics, input: AxisInput) -> AxisBegun
+    ensures { λ r. ⌜ r ≡ Spec.steppedOf motion physics input ⌝ }
+{
+    let offset_target = motion.offset_target;
+    let vel = released(input, motion.vel);
+    let stepped = physics.step(motion.offset, vel, input.dt, input.hold_overscroll);
+    let rubber_banding = physics.is_rubber_banding(stepped.offset);
+    AxisBegun {
+        motion: AxisMotion {
+            offset: stepped.offset,
+            vel: stepped.vel,
+            offset_target,
+            scroll_stuck_to_end: motion.scroll_stuck_to_end,
+        },
+        rubber_banding,
+        repaint: stepped.moving,
+    }
+}
+
+// Letting go throws the content with the pointer's speed; an axis that is not enabled stops.
+fn released(input: AxisInput, vel: f32) -> f32
+    ensures { λ r. ⌜ r ≡ Spec.releasedOf input vel ⌝ }
+{
+    if input.drag_stopped {
+        return -(flag_as_number(input.direction_enabled) * input.pointer_velocity);
+    }
+    vel
+}
