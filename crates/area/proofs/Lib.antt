@@ -1,1 +1,14 @@
 pub mod LayoutLaws
+pub mod TestLaws
+pub mod OrderLaws
+pub mod CallLaws
+pub mod FollowLaws
+pub mod RangeLaws
+pub mod StuckLaws
+pub mod EndLaws
+pub mod ZeroLaws
+pub mod MovedLaws
+pub mod ListLaws
+pub mod ReplayLaws
+pub mod Values
+pub mod Calls

@@ -1,5 +1,5 @@
 -- The state and its readers; the frame's words and what they stand for; the checks; then `begin` and `end`, stage by stage in the
--- order of the Rust; the frame call.
+-- order of the Rust; the frame call; lists of calls.
 pub mod Pair
 pub mod State
 pub mod Layout
@@ -23,3 +23,7 @@ pub mod End
 pub mod Outcome
 pub mod PutOut
 pub mod Call
+pub mod Steps
+pub mod Moved
+pub mod Lists
+pub mod Replay

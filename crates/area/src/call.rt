@@ -1,6 +1,7 @@
 // The frame call.
 ghost use mathlib.Core.Path.{_≡_};
 ghost use Rattle.area.specs.Call as Spec;
+ghost use Rattle.area.specs.Lists.{FrameSays};
 use crate::begin::begin;
 use crate::checks::refusal_of;
 use crate::decode::frame_of;
@@ -15,7 +16,7 @@ use crate::state::State;
 
 // One frame on a state: the checks, then both halves. A refusal hands the state back as given.
 pub fn frame_call(state: State, bytes: &[u8]) -> Answer
-    ensures { λ r. ⌜ r ≡ Spec.callOf state (now (bytes .entry)) ⌝ }
+    ensures { λ r. ⌜ FrameSays state (now (bytes .entry)) r ⌝ }
 {
     let refusal = refusal_of(bytes, state);
     let accepted = refusal == 0;

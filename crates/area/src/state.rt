@@ -1,6 +1,7 @@
 // What an area remembers from frame to frame.
 ghost use mathlib.Core.Path.{_≡_};
 ghost use Rattle.area.specs.State as Spec;
+ghost use Rattle.area.specs.Lists.{AllLists};
 use axis::scroll_bounds;
 use numbers::Rect;
 use numbers::Vec2;
@@ -56,9 +57,10 @@ pub struct State {
 }
 
 impl State {
-    // A fresh state: at the start, at rest, stuck to the end.
+    // A fresh state: at the start, at rest, stuck to the end. Demand 3 holds of every list of calls that begins at it.
     pub fn default() -> Self
-        ensures { λ r. ⌜ r ≡ Spec.default ⌝ }
+        ensures starts { λ r. ⌜ r ≡ Spec.default ⌝ }
+        ensures lists { λ r. ⌜ AllLists r ⌝ }
     {
         State {
             offset: [0.0, 0.0],

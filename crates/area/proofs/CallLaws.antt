@@ -1,0 +1,139 @@
+-- The steps of one frame are the frame call; what an accepted and what a refused frame tells. Assumes nothing.
+use mathlib.Core.Path.{_≡_, refl, sym, ap, _∙_}
+use mathlib.Core.Bool.{Bool, true, false, cond, _&&_, true≢false, false≢true}
+use mathlib.Core.List.{List}
+use Prim.Native.Nat.{ℕ}
+use borrow.Author.Tests.{eqb-true}
+use lib.Dec.{eqb}
+use lib.Ieee.{Float}
+use Rattle.numbers.specs.Scalar.{isFinite}
+use Rattle.area.specs.Pair.{num}
+use Rattle.area.specs.Checks.{refusalOf, isPairFinite, areTargetsFinite, arePressesFinite, isRectFinite, isStateFinite}
+use Rattle.area.specs.End.{isPressBlocked}
+use Rattle.area.specs.PutOut.{nextState, outcomeOf, answerOf}
+use Rattle.area.specs.Outcome.{refusedOf, isOutcomeFinite, isAnswerFinite}
+use Rattle.area.specs.Call.{runOf, callOf}
+use Rattle.area.specs.Steps.{begunAt, endedAt, outputsAt, checkAt, stepAt, isAccepted}
+use Rattle.area.specs.Moved.{endedOn, extentOn}
+use Rattle.area.specs.declared.state.State.{State}
+use Rattle.area.specs.declared.end.Ended.{Ended}
+use Rattle.area.specs.declared.outcome.Answer.{Answer}
+use Rattle.area.proofs.TestLaws.{and-left, and-right}
+
+-- ---- with the first refusal r of checks 1 to 6, whether a press is blocked, and whether what is put out is finite
+
+-- the frame call, and document 01's steps
+abbrev called : State → Answer → ℕ → Bool → Bool → Bool → Answer
+called S outputs r passes blocked finite = cond passes (cond blocked (refusedOf S 7) (cond finite outputs (refusedOf S 8))) (refusedOf S r)
+
+abbrev tried : State → Answer → ℕ → Bool → Answer
+tried S outputs check finite = cond (eqb check 0) (cond finite outputs (refusedOf S 8)) (refusedOf S check)
+
+same-by : (S : State) (outputs : Answer) (r : ℕ) (passes blocked finite : Bool) → eqb r 0 ≡ passes
+    → tried S outputs (cond passes (cond blocked 7 0) r) finite ≡ called S outputs r passes blocked finite
+same-by S outputs r true true finite h = refl
+same-by S outputs r true false finite h = refl
+same-by S outputs r false blocked finite h = ap (λ (t : Bool). cond t (cond finite outputs (refusedOf S 8)) (refusedOf S r)) h
+
+accepted-by : (S : State) (outputs : Answer) (r : ℕ) (passes blocked finite : Bool) → eqb r 0 ≡ passes
+    → isAccepted (called S outputs r passes blocked finite) ≡ true
+    → (called S outputs r passes blocked finite ≡ outputs) × (finite ≡ true) × (r ≡ 0)
+unfolding refusedOf
+accepted-by S outputs r true true finite h a = absurd (false≢true a)
+accepted-by S outputs r true false true h a = (refl, refl, eqb-true r 0 h)
+accepted-by S outputs r true false false h a = absurd (false≢true a)
+accepted-by S outputs r false blocked finite h a = absurd (false≢true (sym h ∙ a))
+
+refused-by : (S : State) (outputs : Answer) (r : ℕ) (passes blocked finite : Bool) → isAccepted outputs ≡ true
+    → isAccepted (called S outputs r passes blocked finite) ≡ false
+    → called S outputs r passes blocked finite .state ≡ S
+unfolding refusedOf
+refused-by S outputs r true true finite o a = refl
+refused-by S outputs r true false true o a = absurd (true≢false (sym o ∙ a))
+refused-by S outputs r true false false o a = refl
+refused-by S outputs r false blocked finite o a = refl
+
+-- ---- one frame
+
+-- "answers and state equal document 01's steps"
+pub step-is-call : (S : State) (bytes : List ℕ) → stepAt S bytes ≡ callOf S bytes
+unfolding stepAt checkAt outputsAt endedAt begunAt callOf runOf
+step-is-call S bytes =
+    same-by S (outputsAt S bytes) (refusalOf bytes S) (eqb (refusalOf bytes S) 0) (isPressBlocked (endedAt S bytes))
+    (isAnswerFinite (outputsAt S bytes)) refl
+
+-- "A refusal returns the state as given"
+outputs-accepted : (S : State) (bytes : List ℕ) → isAccepted (outputsAt S bytes) ≡ true
+unfolding outputsAt answerOf outcomeOf
+outputs-accepted S bytes = refl
+
+call-refused : (S : State) (bytes : List ℕ) → isAccepted (callOf S bytes) ≡ false → callOf S bytes .state ≡ S
+unfolding outputsAt endedAt begunAt callOf runOf
+call-refused S bytes a =
+    refused-by S (outputsAt S bytes) (refusalOf bytes S) (eqb (refusalOf bytes S) 0) (isPressBlocked (endedAt S bytes))
+    (isAnswerFinite (outputsAt S bytes)) (outputs-accepted S bytes) a
+
+pub refusal-keeps : (S : State) (bytes : List ℕ) → isAccepted (stepAt S bytes) ≡ false → stepAt S bytes .state ≡ S
+refusal-keeps S bytes a = rw step-is-call (call-refused S bytes (rw step-is-call at a))
+
+-- ---- an accepted frame
+
+-- on axis d the offset stored and the maximum offset are finite
+pub record IsFiniteOn (e : Ended) (d : ℕ) : Type 0 where
+  pub offset : isFinite (endedOn e d .offset) ≡ true
+  pub maximum : isFinite (extentOn e d .«max_offset») ≡ true
+
+pub record Accepted (S : State) (bytes : List ℕ) : Type 0 where
+  pub state : stepAt S bytes .state ≡ nextState (endedAt S bytes)
+  pub unrefused : refusalOf bytes S ≡ 0
+  pub x : IsFiniteOn (endedAt S bytes) 0
+  pub y : IsFiniteOn (endedAt S bytes) 1
+
+first-two : (a b c d e f : Bool) → (a && b && c && d && e && f) ≡ true → (a ≡ true) × (b ≡ true)
+first-two true true c d e f h = (refl, refl)
+first-two true false c d e f h = absurd (false≢true h)
+first-two false b c d e f h = absurd (false≢true h)
+
+offsets-finite : (t : State) → isStateFinite t ≡ true → (isPairFinite (t .offset) ≡ true) × (isPairFinite (t .«max_offset») ≡ true)
+unfolding isStateFinite
+offsets-finite t h =
+    first-two (isPairFinite (t .offset)) (isPairFinite (t .«max_offset»)) (areTargetsFinite (t .«offset_target»)) (isPairFinite (t .vel))
+    (arePressesFinite (t .«scroll_start_offset_from_top_left»)) (isRectFinite (t .«interact_rect»)) h
+
+pair-finite : (v : List Float) → isPairFinite v ≡ true → (isFinite (num v 0) ≡ true) × (isFinite (num v 1) ≡ true)
+unfolding isPairFinite
+pair-finite v h = (and-left (isFinite (num v 0)) (isFinite (num v 1)) h, and-right (isFinite (num v 0)) (isFinite (num v 1)) h)
+
+ended-finite : (e : Ended) → isStateFinite (nextState e) ≡ true → IsFiniteOn e 0 × IsFiniteOn e 1
+unfolding nextState
+ended-finite e h =
+    let both = offsets-finite (nextState e) h in
+    let offset = pair-finite (nextState e .offset) (both .0) in
+    let maximum = pair-finite (nextState e .«max_offset») (both .1) in
+    (record { offset = offset .0; maximum = maximum .0 }, record { offset = offset .1; maximum = maximum .1 })
+
+outputs-finite : (S : State) (bytes : List ℕ) → isAnswerFinite (outputsAt S bytes) ≡ true → isStateFinite (nextState (endedAt S bytes)) ≡ true
+unfolding isAnswerFinite outputsAt answerOf
+outputs-finite S bytes h = and-left (isStateFinite (outputsAt S bytes .state)) (isOutcomeFinite (outputsAt S bytes .outcome)) h
+
+outputs-state : (S : State) (bytes : List ℕ) → outputsAt S bytes .state ≡ nextState (endedAt S bytes)
+unfolding outputsAt answerOf
+outputs-state S bytes = refl
+
+call-accepted : (S : State) (bytes : List ℕ) → isAccepted (callOf S bytes) ≡ true
+    → (callOf S bytes ≡ outputsAt S bytes) × (isAnswerFinite (outputsAt S bytes) ≡ true) × (refusalOf bytes S ≡ 0)
+unfolding outputsAt endedAt begunAt callOf runOf
+call-accepted S bytes a =
+    accepted-by S (outputsAt S bytes) (refusalOf bytes S) (eqb (refusalOf bytes S) 0) (isPressBlocked (endedAt S bytes))
+    (isAnswerFinite (outputsAt S bytes)) refl a
+
+pub accepted : (S : State) (bytes : List ℕ) → isAccepted (stepAt S bytes) ≡ true → Accepted S bytes
+accepted S bytes a =
+    let c = call-accepted S bytes (rw step-is-call at a) in
+    let n = ended-finite (endedAt S bytes) (outputs-finite S bytes (c .1)) in
+    record {
+      state = ap (λ (r : Answer). r .state) (step-is-call S bytes ∙ c .0) ∙ outputs-state S bytes;
+      unrefused = c .2;
+      x = n .0;
+      y = n .1;
+    }

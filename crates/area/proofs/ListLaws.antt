@@ -1,0 +1,99 @@
+-- "one claim about the whole list, not one for each call": each law of one frame, carried along a list. Assumes nothing.
+use mathlib.Core.Path.{_≡_, refl, sym, ap, subst, _∙_}
+use mathlib.Core.Bool.{Bool, true}
+use mathlib.Core.List.{List, [], _∷_, map}
+use Prim.Native.Nat.{ℕ}
+use Rattle.area.specs.Pair.{flag}
+use Rattle.area.specs.State.{default}
+use Rattle.area.specs.Steps.{stepAt, answersFrom, stateFrom, isAccepted, acceptedFrom}
+use Rattle.area.specs.Moved.{isMoved, isMovedByWords}
+use Rattle.area.specs.Lists.{Call, byValue, lent, bytesOf, Run, ends, returned, left, RangeAlong, EndAlong, Whole, AllLists}
+use Rattle.area.specs.declared.state.State.{State}
+use Rattle.area.specs.declared.outcome.Answer.{Answer}
+use Rattle.area.proofs.TestLaws.{chosen}
+use Rattle.area.proofs.CallLaws.{step-is-call, refusal-keeps}
+use Rattle.area.proofs.RangeLaws.{in-range}
+use Rattle.area.proofs.EndLaws.{StaysOnEnd, stays-x, stays-y}
+use Rattle.area.proofs.MovedLaws.{stays-by-words-x, stays-by-words-y}
+
+-- ---- "answers and state equal document 01's steps"
+record Same (s : State) (calls : List Call) (answers : List Answer) (t : State) : Type 0 where
+  pub answers-same : answers ≡ answersFrom s (map bytesOf calls)
+  pub state-same : t ≡ stateFrom s (map bytesOf calls)
+
+same : {s : State} {calls : List Call} {answers : List Answer} {t : State} → Run s calls answers t → Same s calls answers t
+same ends = record { answers-same = refl; state-same = refl }
+same (returned {s} {bytes} {r} {calls} {answers} {t} says run) =
+    let is-step = says ∙ sym (step-is-call s bytes) in
+    let rest = subst (λ (a : Answer). Same (a .state) calls answers t) is-step (same run) in
+    record { answers-same = λ i. is-step i ∷ rest .answers-same i; state-same = rest .state-same }
+same (left {s} {bytes} {o} {u} {calls} {answers} {t} says run) =
+    let is-left = says .leaves ∙ ap (λ (a : Answer). a .state) (sym (step-is-call s bytes)) in
+    let is-told = says .answers ∙ ap (λ (a : Answer). a .outcome) (sym (step-is-call s bytes)) in
+    let rest = subst (λ (v : State). Same v calls answers t) is-left (same run) in
+    record { answers-same = λ i. record { state = is-left i; outcome = is-told i } ∷ rest .answers-same i; state-same = rest .state-same }
+
+-- each list has a run
+pub run-of : (s : State) (calls : List Call) → Run s calls (answersFrom s (map bytesOf calls)) (stateFrom s (map bytesOf calls))
+run-of s [] = ends
+run-of s (byValue bytes ∷ calls) = returned (step-is-call s bytes) (run-of (stepAt s bytes .state) calls)
+run-of s (lent bytes ∷ calls) =
+    left (record { answers = ap (λ (a : Answer). a .outcome) (step-is-call s bytes); leaves = ap (λ (a : Answer). a .state) (step-is-call s bytes) })
+    (run-of (stepAt s bytes .state) calls)
+
+-- ---- "the accepted frames alone reach the same state"
+alone : (S : State) (frames : List (List ℕ)) → stateFrom S (acceptedFrom S frames) ≡ stateFrom S frames
+alone S [] = refl
+alone S (bytes ∷ rest) =
+    let after = stepAt S bytes .state in
+    let others = acceptedFrom after rest in
+    chosen (λ (frames : List (List ℕ)). stateFrom S frames ≡ stateFrom after rest) (isAccepted (stepAt S bytes)) (bytes ∷ others) others
+    (λ h. alone after rest)
+    (λ h. subst (λ (u : State). stateFrom u others ≡ stateFrom after rest) (refusal-keeps S bytes h) (alone after rest))
+
+-- ---- "with rubber band off the stored offset lies in the range"
+range-along : (S : State) (frames : List (List ℕ)) → RangeAlong S frames (answersFrom S frames)
+range-along S [] = tt
+range-along S (bytes ∷ rest) = (in-range S bytes, range-along (stepAt S bytes .state) rest)
+
+-- ---- "a sticking axis that nobody moves shows the list's end": from a stuck axis on, it stays stuck
+end-along : (moved : State → List ℕ → ℕ → Bool) (d : ℕ) → StaysOnEnd moved d → (S : State) (frames : List (List ℕ))
+    → flag (S .«scroll_stuck_to_end») d ≡ true
+    → EndAlong moved d S frames (answersFrom S frames)
+end-along moved d stays S [] stuck = tt
+end-along moved d stays S (bytes ∷ rest) stuck = (
+  λ a sticks unmoved.
+      let on-end = stays S bytes a sticks unmoved stuck in
+      (on-end .0, end-along moved d stays (stepAt S bytes .state) rest (on-end .1)),
+  λ a.
+      end-along moved d stays (stepAt S bytes .state) rest (ap (λ (s : State). flag (s .«scroll_stuck_to_end») d) (refusal-keeps S bytes a) ∙ stuck),
+)
+
+-- ---- the claim, of the fresh state
+fresh-stuck : (flag (default .«scroll_stuck_to_end») 0 ≡ true) × (flag (default .«scroll_stuck_to_end») 1 ≡ true)
+unfolding default
+fresh-stuck = (refl, refl)
+
+-- both axes, of the answers that the steps give
+both-along : (moved : State → List ℕ → ℕ → Bool) → StaysOnEnd moved 0 → StaysOnEnd moved 1 → (frames : List (List ℕ)) (answers : List Answer)
+    → answers ≡ answersFrom default frames
+    → EndAlong moved 0 default frames answers × EndAlong moved 1 default frames answers
+both-along moved x y frames answers e =
+    subst (λ (given : List Answer). EndAlong moved 0 default frames given × EndAlong moved 1 default frames given) (sym e)
+    (end-along moved 0 x default frames (fresh-stuck .0), end-along moved 1 y default frames (fresh-stuck .1))
+
+whole-from-fresh : (calls : List Call) (answers : List Answer) (t : State) → Run default calls answers t → Whole default calls answers t
+whole-from-fresh calls answers t run =
+    let is = same run in
+    let frames = map bytesOf calls in
+    record {
+      same-answers = is .answers-same;
+      same-state = is .state-same;
+      accepted-alone = alone default frames ∙ sym (is .state-same);
+      in-range = subst (RangeAlong default frames) (sym (is .answers-same)) (range-along default frames);
+      on-end = both-along isMoved stays-x stays-y frames answers (is .answers-same);
+      on-end-by-words = both-along (λ S. isMovedByWords) stays-by-words-x stays-by-words-y frames answers (is .answers-same);
+    }
+
+pub all-lists : AllLists default
+all-lists = record { whole = whole-from-fresh; has-run = run-of default }

@@ -1,0 +1,292 @@
+-- An axis that no word of an accepted frame moves is not moved by the steps: so the reading by words follows from the narrowest.
+-- Assumes nothing.
+use mathlib.Core.Path.{_≡_, refl, ap, _∙_}
+use mathlib.Core.Logic.{inl, inr}
+use mathlib.Core.Bool.{Bool, true, false, cond, not, _&&_, _||_, true≢false}
+use mathlib.Core.List.{List}
+use Prim.Native.Nat.{ℕ, zero, suc, _+_, _-_, _<_, _≤_}
+use native.Mathlib.Nat.{eq-or-lt-of-le}
+use native.Mathlib.Omega.{arith}
+use borrow.Author.Tests.{eqb-true, not-false}
+use lib.Dec.{eqb}
+use lib.ListN.{length, getD}
+use lib.Ieee.{Float, binary32, eq, ne, lt}
+use Rattle.numbers.specs.F32 as F32
+use Rattle.numbers.specs.Scalar.{absOf, isFinite}
+use Rattle.axis.specs.Limits.{limit, exceedsLimit}
+use Rattle.axis.specs.Wheel.{wheelOf}
+use Rattle.axis.specs.declared.physics.AxisPhysics.{AxisPhysics}
+use Rattle.axis.specs.declared.wheel.WheelScroll.{WheelScroll}
+use Rattle.axis.specs.declared.wheel.Wheeled.{Wheeled}
+use Rattle.area.specs.Pair.{num, flag}
+use Rattle.area.specs.Layout as At
+use Rattle.area.specs.Layout.{layout, rows, rowAt, rowNo}
+use Rattle.area.specs.Frame.{flagNo, numberNo, pairNo, pos2No, maybePos2No, barResponseNo, scrollTargetNo, maybeScrollTargetNo}
+use Rattle.area.specs.Frame.{targetRequestNo, settingsOf, hostOf, contentOf, frameOf}
+use Rattle.area.specs.Checks.{isHeeded, shows3, isShown, showsNo, anyShows, frameRefusal, stateRefusal, refusalOf}
+use Rattle.area.specs.Geometry.{pickOf}
+use Rattle.area.specs.Adjust.{requestAt, viewOf, askedBy, askedOf, askedAt, movedBy, unadjusted, adjustedBy, adjustedOf}
+use Rattle.area.specs.WheelTurn.{wheelScrollOf, wheelPhysicsOf, taken, untaken, unheard, turnedBy, turnedOf}
+use Rattle.area.specs.Handle.{showFactorOf}
+use Rattle.area.specs.Bar.{noResponse}
+use Rattle.area.specs.End.{endedBy, finishedOf, axisEndedOf, endOf}
+use Rattle.area.specs.Steps.{begunAt, endedAt}
+use Rattle.area.specs.Moved.{wordOn, isOtherThanZero, isMovedByWords, isSomePos2, isDragHeeded, isPressHeeded, isMovedIn, isMoved}
+use Rattle.area.specs.declared.frame.Frame.{Frame}
+use Rattle.area.specs.declared.frame.MaybePos2.{MaybePos2}
+use Rattle.area.specs.declared.frame.MaybeScrollTarget.{MaybeScrollTarget}
+use Rattle.area.specs.declared.frame.ScrollAnimation.{ScrollAnimation}
+use Rattle.area.specs.declared.state.State.{State}
+use Rattle.area.specs.declared.prepared.AxisMotion.{AxisMotion}
+use Rattle.area.specs.declared.prepared.AxisSpace.{AxisSpace}
+use Rattle.area.specs.declared.prepared.AxisBegun.{AxisBegun}
+use Rattle.area.specs.declared.prepared.Prepared.{Prepared}
+use Rattle.area.specs.declared.extent.AxisExtent.{AxisExtent}
+use Rattle.area.specs.declared.adjust.Adjusted.{Adjusted}
+use Rattle.area.specs.declared.adjust.AskedDelta.{AskedDelta}
+use Rattle.area.specs.declared.adjust.AxisView.{AxisView}
+use Rattle.area.specs.declared.«wheel_turn».WheelHeard.{WheelHeard}
+use Rattle.area.specs.declared.«wheel_turn».Turned.{Turned}
+use Rattle.area.specs.declared.end.Extents.{Extents}
+use Rattle.area.proofs.TestLaws as Test
+use Rattle.area.proofs.TestLaws.{neither, not-left, not-right, fails-left, fails-right, either}
+use Rattle.area.proofs.ZeroLaws.{IsZero, add-zeros, mul-zero, neg-zero, equals-zero, of-no-other, no-other-than-zero}
+use Rattle.area.proofs.CallLaws.{accepted}
+use Rattle.area.proofs.EndLaws.{StaysOnEnd, stays-x, stays-y}
+
+-- ---- a wheel delta of zero is not taken
+wheel-unmoved : (physics : AxisPhysics) (offset vel : Float) (scroll : WheelScroll) (bounced : Bool) → eq (scroll .delta) F32.zero ≡ true
+    → wheelOf physics offset vel scroll bounced .consumed ≡ false
+unfolding wheelOf
+wheel-unmoved physics offset vel scroll bounced h = Test.taken (λ (w : Wheeled). w .consumed ≡ false) (eq (scroll .delta) F32.zero) _ _ h refl
+
+abbrev Untaken : Turned → Type 0
+Untaken t = t .consumed ≡ false
+
+turn-untaken : (physics : AxisPhysics) (scroll : WheelScroll) (m : AxisMotion) (rubberBanding bounced : Bool) → eq (scroll .delta) F32.zero ≡ true
+    → Untaken (turnedBy physics scroll m rubberBanding bounced)
+unfolding turnedBy
+turn-untaken physics scroll m rubberBanding bounced h =
+    let r = wheelOf physics (m .offset) (m .vel) scroll bounced in
+    Test.left Untaken (r .consumed) (taken physics r) (untaken m rubberBanding r) (wheel-unmoved physics (m .offset) (m .vel) scroll bounced h) refl
+
+picked-zero : (t : Bool) (x y : Float) → IsZero x → IsZero y → IsZero (pickOf t x y)
+unfolding pickOf
+picked-zero t x y p q = either IsZero t x y p q
+
+-- ---- no target and a scroll delta of zero ask for nothing
+abbrev isSomeTarget : MaybeScrollTarget → Bool
+isSomeTarget MaybeScrollTarget.Nothing = false
+isSomeTarget (MaybeScrollTarget.Some t) = true
+
+asked-zero : (target : MaybeScrollTarget) (delta : Float) (animation : ScrollAnimation) (view : AxisView) (offset : Float)
+    → isSomeTarget target ≡ false → IsZero delta
+    → IsZero (askedBy target delta animation view offset .delta)
+asked-zero MaybeScrollTarget.Nothing delta animation view offset h p = neg-zero delta p
+asked-zero (MaybeScrollTarget.Some t) delta animation view offset h p = absurd (true≢false h)
+
+unadjusted-by : (m : AxisMotion) (asked : AskedDelta) (enabled animated : Bool) (now : Float) → IsZero (asked .delta)
+    → adjustedBy m asked enabled animated now .«had_explicit_scroll_adjustment» ≡ false
+unfolding adjustedBy
+unadjusted-by m asked enabled animated now p =
+    Test.left (λ (a : Adjusted). a .«had_explicit_scroll_adjustment» ≡ false) (enabled && ne (asked .delta) F32.zero) (movedBy m asked animated now)
+    (unadjusted m)
+    (fails-right enabled (ne (asked .delta) F32.zero) (no-other-than-zero (asked .delta) p)) refl
+
+-- ---- one axis of a frame that names no move on it
+record IsQuiet (f : Frame) (d : ℕ) : Type 0 where
+  pub undragged : f .host .dragged ≡ false
+  pub unpressed : isSomePos2 (getD (f .host .bars) d noResponse .press) ≡ false
+  pub untargeted : isSomeTarget (requestAt (f .content .targets) d .target) ≡ false
+  pub delta : IsZero (num (f .content .«scroll_delta») d)
+  pub wheel-x : IsZero (num (f .host .«smooth_scroll_delta») 0)
+  pub wheel-y : IsZero (num (f .host .«smooth_scroll_delta») 1)
+  pub wheel : IsZero (num (f .host .«smooth_scroll_delta») d)
+  pub multiplier : isFinite (num (f .settings .«wheel_scroll_multiplier») d) ≡ true
+
+quiet-turn : (f : Frame) (d : ℕ) (always : Bool) → IsQuiet f d → eq (wheelScrollOf f d always .delta) F32.zero ≡ true
+unfolding wheelScrollOf
+quiet-turn f d always q =
+    equals-zero _
+    (neg-zero _ (mul-zero binary32 _ _ (picked-zero always _ _ (add-zeros binary32 _ _ (q .wheel-x) (q .wheel-y)) (q .wheel)) (q .multiplier)))
+
+quiet-untaken : (f : Frame) (s : State) (d : ℕ) (space : AxisSpace) (extent : AxisExtent) (wheel : WheelHeard) (m : AxisMotion) (rubberBanding : Bool)
+    → IsQuiet f d
+    → Untaken (turnedOf f s d space extent wheel m rubberBanding)
+unfolding turnedOf
+quiet-untaken f s d space extent wheel m rubberBanding q =
+    let bounced = flag (s .«bounced_this_momentum») d in
+    let always = wheel .«always_scroll_enabled_direction» in
+    either Untaken (wheel .heard && flag (f .settings .«direction_enabled») d)
+    (turnedBy (wheelPhysicsOf f s d space extent) (wheelScrollOf f d always) m rubberBanding bounced)
+    (unheard m rubberBanding bounced)
+    (turn-untaken _ (wheelScrollOf f d always) m rubberBanding bounced (quiet-turn f d always q))
+    refl
+
+quiet-unadjusted : (f : Frame) (d : ℕ) (space : AxisSpace) (m : AxisMotion) → IsQuiet f d
+    → adjustedOf f d space m .«had_explicit_scroll_adjustment» ≡ false
+unfolding adjustedOf askedAt askedOf
+quiet-unadjusted f d space m q =
+    let target = requestAt (f .content .targets) d .target in
+    let delta = num (f .content .«scroll_delta») d in
+    unadjusted-by m _ _ _ _ (asked-zero target delta (f .content .animation) (viewOf f d space) (m .offset) (q .untargeted) (q .delta))
+
+quiet-undragged : (f : Frame) (p : Prepared) (d : ℕ) → IsQuiet f d → isDragHeeded f p d ≡ false
+unfolding isDragHeeded
+quiet-undragged f p d q =
+    let background = p .«has_background_drag» in
+    fails-left (background && f .host .dragged) (flag (f .settings .«direction_enabled») d) (fails-right background (f .host .dragged) (q .undragged))
+
+quiet-unpressed : (f : Frame) (d : ℕ) (showScroll : Bool) → IsQuiet f d → isPressHeeded f d showScroll ≡ false
+unfolding isPressHeeded
+quiet-unpressed f d showScroll q =
+    let showFactor = showFactorOf showScroll (num (f .host .«bar_factors») d) (num (f .host .«opening_factors») d) in
+    fails-right (not (eq showFactor F32.zero)) (isSomePos2 (getD (f .host .bars) d noResponse .press)) (q .unpressed)
+
+quiet-unmoved : (f : Frame) (s : State) (d e : ℕ) (space : AxisSpace) (x : Extents) (wheel : WheelHeard) (b : AxisBegun) (p : Prepared) → IsQuiet f d
+    → isMovedIn f p d (axisEndedOf f s d e space x wheel b) ≡ false
+unfolding isMovedIn axisEndedOf finishedOf endedBy
+quiet-unmoved f s d e space x wheel b p q =
+    neither _ _ (quiet-undragged f p d q)
+    (neither _ _ (quiet-untaken f s d space (x .this) wheel _ _ q) (neither _ _ (quiet-unadjusted f d space (b .motion) q) (quiet-unpressed f d _ q)))
+
+-- ---- what an accepted frame tells of a number: check 3 has not shown
+none-shows : (k : ℕ) (s : List ℕ) (n m : ℕ) → anyShows k s n ≡ false → m < n → showsNo k s (suc m) ≡ false
+unfolding anyShows
+none-shows k s zero m h l = absurd (omega arith)
+none-shows k s (suc n) m h l =
+    let at-most : m ≤ n = omega arith in
+    elim (eq-or-lt-of-le at-most) [
+      | inl e ↦ ap (λ (i : ℕ). showsNo k s (suc i)) e ∙ not-right (anyShows k s n) (showsNo k s (suc n)) h
+      | inr b ↦ none-shows k s n m (not-left (anyShows k s n) (showsNo k s (suc n)) h) b
+    ]
+
+abbrev firstOf : Bool → Bool → Bool → Bool → Bool → ℕ
+firstOf long two three four five = cond (not long) 1 (cond two 2 (cond three 3 (cond four 4 (cond five 5 0))))
+
+third-fails : (long two three four five : Bool) → firstOf long two three four five ≡ 0 → three ≡ false
+third-fails false a b c d h = absurd (omega (arith, h))
+third-fails true true b c d h = absurd (omega (arith, h))
+third-fails true false true c d h = absurd (omega (arith, h))
+third-fails true false false c d h = refl
+
+frame-unrefused : (bytes : List ℕ) (S : State) → refusalOf bytes S ≡ 0 → frameRefusal bytes ≡ 0
+unfolding refusalOf
+frame-unrefused bytes S h = go (eqb (frameRefusal bytes) 0) refl h
+  where
+    go : (t : Bool) → eqb (frameRefusal bytes) 0 ≡ t → cond t (stateRefusal S) (frameRefusal bytes) ≡ 0 → frameRefusal bytes ≡ 0
+    go true k e = eqb-true (frameRefusal bytes) 0 k
+    go false k e = e
+
+third-unshown : (bytes : List ℕ) → frameRefusal bytes ≡ 0 → anyShows 3 bytes 104 ≡ false
+unfolding frameRefusal
+third-unshown bytes h =
+    third-fails (eqb (length bytes) 416) (anyShows 2 bytes 104) (anyShows 3 bytes 104) (anyShows 4 bytes 104) (anyShows 5 bytes 104) h
+
+within-limit : (x : Float) → exceedsLimit x ≡ false → isFinite x ≡ true
+unfolding exceedsLimit
+within-limit x h = not-false (isFinite x) (not-left (not (isFinite x)) (lt limit (absOf x)) h)
+
+-- the row of a multiplier asks for a number, outside any option
+multiplier-row : (bytes : List ℕ) (d : ℕ) → (exceedsLimit (numberNo bytes (At.wheelScrollMultiplier + d)) || false || false) ≡ false
+    → isFinite (numberNo bytes (At.wheelScrollMultiplier + d)) ≡ true
+multiplier-row bytes d h =
+    let exceeds = exceedsLimit (numberNo bytes (At.wheelScrollMultiplier + d)) in
+    within-limit (numberNo bytes (At.wheelScrollMultiplier + d)) (not-left exceeds false (not-left (exceeds || false) false h))
+
+multiplier-finite : (bytes : List ℕ) (S : State) → refusalOf bytes S ≡ 0
+    → (isFinite (numberNo bytes At.wheelScrollMultiplier) ≡ true) × (isFinite (numberNo bytes (At.wheelScrollMultiplier + 1)) ≡ true)
+unfolding showsNo isHeeded isShown shows3 rowNo rowAt rows layout
+multiplier-finite bytes S h =
+    let unshown = third-unshown bytes (frame-unrefused bytes S h) in
+    let x = none-shows 3 bytes 104 21 unshown (omega arith) in
+    let y = none-shows 3 bytes 104 22 unshown (omega arith) in
+    (multiplier-row bytes 0 x, multiplier-row bytes 1 y)
+
+-- ---- what the words tell
+record Unnamed (bytes : List ℕ) (d : ℕ) : Type 0 where
+  pub undragged : flagNo bytes At.dragged ≡ false
+  pub unpressed : flagNo bytes (wordOn d At.barX At.barY + 2) ≡ false
+  pub untargeted : flagNo bytes (wordOn d At.targetX At.targetY) ≡ false
+  pub delta : isOtherThanZero bytes (At.scrollDelta + d) ≡ false
+  pub wheel-x : isOtherThanZero bytes At.smoothScrollDelta ≡ false
+  pub wheel-y : isOtherThanZero bytes (At.smoothScrollDelta + 1) ≡ false
+
+unnamed : (bytes : List ℕ) (d : ℕ) → isMovedByWords bytes d ≡ false → Unnamed bytes d
+unfolding isMovedByWords
+unnamed bytes d h =
+    let offset = flagNo bytes (wordOn d At.offsetX At.offsetY) in
+    let dragged = flagNo bytes At.dragged in
+    let stopped = flagNo bytes At.dragStopped in
+    let press = flagNo bytes (wordOn d At.barX At.barY + 2) in
+    let target = flagNo bytes (wordOn d At.targetX At.targetY) in
+    let delta = isOtherThanZero bytes (At.scrollDelta + d) in
+    let wheel-x = isOtherThanZero bytes At.smoothScrollDelta in
+    let wheel-y = isOtherThanZero bytes (At.smoothScrollDelta + 1) in
+    let to-wheel-x = not-left (offset || dragged || stopped || press || target || delta || wheel-x) wheel-y h in
+    let to-delta = not-left (offset || dragged || stopped || press || target || delta) wheel-x to-wheel-x in
+    let to-target = not-left (offset || dragged || stopped || press || target) delta to-delta in
+    let to-press = not-left (offset || dragged || stopped || press) target to-target in
+    let to-stopped = not-left (offset || dragged || stopped) press to-press in
+    record {
+      undragged = not-right offset dragged (not-left (offset || dragged) stopped to-stopped);
+      unpressed = not-right (offset || dragged || stopped) press to-press;
+      untargeted = not-right (offset || dragged || stopped || press) target to-target;
+      delta = not-right (offset || dragged || stopped || press || target) delta to-delta;
+      wheel-x = not-right (offset || dragged || stopped || press || target || delta) wheel-x to-wheel-x;
+      wheel-y = not-right (offset || dragged || stopped || press || target || delta || wheel-x) wheel-y h;
+    }
+
+no-point : (bytes : List ℕ) (n : ℕ) → flagNo bytes n ≡ false → isSomePos2 (maybePos2No bytes n) ≡ false
+unfolding maybePos2No
+no-point bytes n h =
+    Test.left (λ (p : MaybePos2). isSomePos2 p ≡ false) (flagNo bytes n) (MaybePos2.Some (pos2No bytes (n + 1))) MaybePos2.Nothing h refl
+
+no-target : (bytes : List ℕ) (n : ℕ) → flagNo bytes n ≡ false → isSomeTarget (maybeScrollTargetNo bytes n) ≡ false
+unfolding maybeScrollTargetNo
+no-target bytes n h =
+    Test.left (λ (t : MaybeScrollTarget). isSomeTarget t ≡ false) (flagNo bytes n)
+    (MaybeScrollTarget.Some (scrollTargetNo bytes (n + 1))) MaybeScrollTarget.Nothing h refl
+
+quiet-x : (bytes : List ℕ) → Unnamed bytes 0 → isFinite (numberNo bytes At.wheelScrollMultiplier) ≡ true → IsQuiet (frameOf bytes) 0
+unfolding frameOf settingsOf hostOf contentOf pairNo barResponseNo targetRequestNo
+quiet-x bytes u n = record {
+  undragged = u .undragged;
+  unpressed = no-point bytes (At.barX + 2) (u .unpressed);
+  untargeted = no-target bytes At.targetX (u .untargeted);
+  delta = of-no-other _ (u .delta);
+  wheel-x = of-no-other _ (u .wheel-x);
+  wheel-y = of-no-other _ (u .wheel-y);
+  wheel = of-no-other _ (u .wheel-x);
+  multiplier = n;
+}
+
+quiet-y : (bytes : List ℕ) → Unnamed bytes 1 → isFinite (numberNo bytes (At.wheelScrollMultiplier + 1)) ≡ true → IsQuiet (frameOf bytes) 1
+unfolding frameOf settingsOf hostOf contentOf pairNo barResponseNo targetRequestNo
+quiet-y bytes u n = record {
+  undragged = u .undragged;
+  unpressed = no-point bytes (At.barY + 2) (u .unpressed);
+  untargeted = no-target bytes At.targetY (u .untargeted);
+  delta = of-no-other _ (u .delta);
+  wheel-x = of-no-other _ (u .wheel-x);
+  wheel-y = of-no-other _ (u .wheel-y);
+  wheel = of-no-other _ (u .wheel-y);
+  multiplier = n;
+}
+
+-- ---- an accepted frame
+unmoved-x : (S : State) (bytes : List ℕ) → IsQuiet (frameOf bytes) 0 → isMoved S bytes 0 ≡ false
+unfolding isMoved endedAt endOf
+unmoved-x S bytes q = quiet-unmoved (frameOf bytes) S 0 1 _ _ _ _ (begunAt S bytes) q
+
+unmoved-y : (S : State) (bytes : List ℕ) → IsQuiet (frameOf bytes) 1 → isMoved S bytes 1 ≡ false
+unfolding isMoved endedAt endOf
+unmoved-y S bytes q = quiet-unmoved (frameOf bytes) S 1 0 _ _ _ _ (begunAt S bytes) q
+
+pub stays-by-words-x : StaysOnEnd (λ S. isMovedByWords) 0
+stays-by-words-x S bytes a st h k =
+    stays-x S bytes a st (unmoved-x S bytes (quiet-x bytes (unnamed bytes 0 h) (multiplier-finite bytes S (accepted S bytes a .unrefused) .0))) k
+
+pub stays-by-words-y : StaysOnEnd (λ S. isMovedByWords) 1
+stays-by-words-y S bytes a st h k =
+    stays-y S bytes a st (unmoved-y S bytes (quiet-y bytes (unnamed bytes 1 h) (multiplier-finite bytes S (accepted S bytes a .unrefused) .1))) k

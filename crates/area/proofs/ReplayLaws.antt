@@ -1,0 +1,142 @@
+-- What a loop over a list of calls in bytes knows before, between and after its turns. Assumes nothing.
+use Prim.Native.Nat.{ℕ, zero, suc, _≤_, _<_, _+_, _-_}
+use native.Mathlib.Numerals.{add-one}
+use native.Mathlib.Omega.{arith}
+use mathlib.Core.Path.{_≡_, refl, sym, ap, subst, _∙_}
+use mathlib.Core.Bool.{Bool, true, false, cond}
+use mathlib.Core.List.{List, [], _∷_, _++_, map, append-assoc, append-nil}
+use lib.Dec.{eqb}
+use lib.ListN.{length, take, drop, getD, set, length-append, drop-of-length-le}
+use lib.Seq.{drop-cons}
+use Rattle.area.specs.State.{default}
+use Rattle.area.specs.Call.{callOf}
+use Rattle.area.specs.Steps.{stepAt, answersFrom, stateFrom}
+use Rattle.area.specs.Lists.{byValue, lent, bytesOf, Run}
+use Rattle.area.specs.Replay.{frameLength, callsUpTo, callsOf, framesOf, Part, refusalsFrom, overlay, Replayed}
+use Rattle.area.specs.declared.state.State.{State}
+use Rattle.area.specs.declared.outcome.Answer.{Answer}
+use Rattle.area.proofs.CallLaws.{step-is-call}
+use Rattle.area.proofs.ListLaws.{run-of, all-lists}
+
+-- ---- the frames of at most n calls
+abbrev pub feed : ℕ → List ℕ → List (List ℕ)
+feed n bytes = map bytesOf (callsUpTo n bytes)
+
+either-form : (isByValue : Bool) (bytes : List ℕ) → bytesOf (cond isByValue (byValue bytes) (lent bytes)) ≡ bytes
+either-form true bytes = refl
+either-form false bytes = refl
+
+-- the first frame stands between the flag and the frame's end, and the rest begins there
+feed-next : (calls : List ℕ) (at end n : ℕ) → at < length calls → Part calls (at + 1) end
+    → feed (suc n) (drop at calls) ≡ take (end - (at + 1)) (drop (at + 1) calls) ∷ feed n (drop end calls)
+feed-next calls at end n h p =
+    ap (feed (suc n)) (drop-cons calls at 0 h)
+    ∙ ap (λ (b : List ℕ). b ∷ feed n (drop frameLength (drop (suc at) calls))) (either-form (eqb (getD calls at 0) 0) _)
+    ∙ ap (λ (k : ℕ). take frameLength (drop k calls) ∷ feed n (drop frameLength (drop k calls))) (sym (add-one at))
+    ∙ (λ i. sym (p .frame) i ∷ feed n (sym (p .rest) i))
+
+feed-none : (n : ℕ) → feed n [] ≡ []
+feed-none zero = refl
+feed-none (suc n) = refl
+
+-- ---- what is laid over a list
+length-overlay : (xs places : List ℕ) → length (overlay xs places) ≡ length places
+length-overlay [] places = refl
+length-overlay (x ∷ xs) [] = refl
+length-overlay (x ∷ xs) (y ∷ places) = ap suc (length-overlay xs places)
+
+-- one more behind those that stand there
+put-next : (xs places : List ℕ) (v : ℕ) → set (overlay xs places) (length xs) v ≡ overlay (xs ++ v ∷ []) places
+put-next [] [] v = refl
+put-next [] (y ∷ places) v = refl
+put-next (x ∷ xs) [] v = refl
+put-next (x ∷ xs) (y ∷ places) v = ap (λ (l : List ℕ). x ∷ l) (put-next xs places v)
+
+-- ---- the loop's invariant: from `state`, what is left of the calls leads to the state that the whole list leads to from a default
+-- state, and to its refusals, once those so far, `done`, are put in front
+pub record Upto (calls before : List ℕ) (state : State) (at i : ℕ) (now : List ℕ) : Type 0 where
+  pub fuel : ℕ
+  pub done : List ℕ
+  pub enough : length calls - at ≤ fuel
+  pub ahead : i ≤ at
+  pub long : length done ≡ i
+  pub same-state : stateFrom state (feed fuel (drop at calls)) ≡ stateFrom default (framesOf calls)
+  pub same-refusals : done ++ refusalsFrom state (feed fuel (drop at calls)) ≡ refusalsFrom default (framesOf calls)
+  pub here : now ≡ overlay done before
+
+pub same-length-at : {calls before : List ℕ} {state : State} {at i : ℕ} {now : List ℕ} → Upto calls before state at i now
+    → length now ≡ length before
+same-length-at u = ap length (u .here) ∙ length-overlay (u .done) _
+
+pub begins : (calls before : List ℕ) (state : State) → state ≡ default → Upto calls before state 0 0 before
+unfolding framesOf callsOf
+begins calls before state e =
+    subst
+    (λ (s : State). Upto calls before s 0 0 before)
+    (sym e)
+    (record {
+      fuel = length calls;
+      done = [];
+      enough = omega arith;
+      ahead = omega arith;
+      long = refl;
+      same-state = refl;
+      same-refusals = refl;
+      here = refl;
+    })
+
+module _ (calls before : List ℕ) (state : State) (at i end : ℕ) (now : List ℕ) where
+  -- the frame of a turn, and its refusal
+  abbrev frame : List ℕ
+  frame = take (end - (at + 1)) (drop (at + 1) calls)
+
+  abbrev refusal : ℕ
+  refusal = stepAt state frame .outcome .refusal
+
+  next : at < length calls → Part calls (at + 1) end → (n : ℕ) (u : Upto calls before state at i now) → u .fuel ≡ n
+      → Upto calls before (stepAt state frame .state) end (i + 1) (set now i refusal)
+  next h p zero u k = elim (none h (u .enough) k) [ ]
+    where
+      none : at < length calls → length calls - at ≤ u .fuel → u .fuel ≡ 0 → ⊥
+      none h g k = omega arith
+  next h p (suc n) u k =
+      let f : feed (u .fuel) (drop at calls) ≡ frame ∷ feed n (drop end calls) =
+      ap (λ (m : ℕ). feed m (drop at calls)) k ∙ feed-next calls at end n h p in
+      record {
+        fuel = n;
+        done = u .done ++ refusal ∷ [];
+        enough = omega (arith, p .low, u .enough, k);
+        ahead = omega (arith, p .low, u .ahead);
+        long = omega (arith, length-append (u .done) (refusal ∷ []), u .long);
+        same-state = ap (stateFrom state) (sym f) ∙ u .same-state;
+        same-refusals =
+            append-assoc (u .done) (refusal ∷ []) _ ∙ ap (λ (bs : List (List ℕ)). u .done ++ refusalsFrom state bs) (sym f) ∙ u .same-refusals;
+        here = (λ j. set (u .here j) (sym (u .long) j) refusal) ∙ put-next (u .done) before refusal;
+      }
+
+  -- the same, on what the callees gave
+  pub turns : (answer : Answer) (after : List ℕ) → answer ≡ callOf state frame → after ≡ set now i (answer .outcome .refusal)
+      → at < length calls → Part calls (at + 1) end → Upto calls before state at i now → Upto calls before (answer .state) end (i + 1) after
+  turns answer after e w h p u =
+      subst
+      (Upto calls before (answer .state) end (i + 1))
+      (sym w)
+      (subst
+      (λ (r : Answer). Upto calls before (r .state) end (i + 1) (set now i (r .outcome .refusal)))
+      (step-is-call state frame ∙ sym e)
+      (next h p (u .fuel) u refl))
+
+pub finishes : (calls before : List ℕ) (state : State) (at i : ℕ) (now : List ℕ) → length calls ≤ at → Upto calls before state at i now
+    → Replayed calls state before now
+unfolding framesOf
+finishes calls before state at i now h u =
+    let f : feed (u .fuel) (drop at calls) ≡ [] = ap (feed (u .fuel)) (drop-of-length-le calls h) ∙ feed-none (u .fuel) in
+    let all : u .done ≡ refusalsFrom default (framesOf calls) =
+    sym (append-nil (u .done)) ∙ ap (λ (bs : List (List ℕ)). u .done ++ refusalsFrom state bs) (sym f) ∙ u .same-refusals in
+    let same : state ≡ stateFrom default (framesOf calls) = ap (stateFrom state) (sym f) ∙ u .same-state in
+    let ran = subst (Run default (callsOf calls) (answersFrom default (framesOf calls))) (sym same) (run-of default (callsOf calls)) in
+    record {
+      ran = ran;
+      whole = all-lists .whole (callsOf calls) (answersFrom default (framesOf calls)) state ran;
+      same-refusals = u .here ∙ ap (λ (xs : List ℕ). overlay xs before) all;
+    }

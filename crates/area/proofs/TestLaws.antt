@@ -1,0 +1,67 @@
+-- What a test tells of its parts, and a choice by a test of its arms. Assumes nothing.
+use mathlib.Core.Path.{_≡_, refl, sym, _∙_}
+use mathlib.Core.Bool.{Bool, true, false, cond, _&&_, _||_, true≢false, false≢true}
+
+-- ---- "or"
+pub or-left : (p q : Bool) → p ≡ true → (p || q) ≡ true
+or-left true q h = refl
+or-left false q h = absurd (false≢true h)
+
+pub or-right : (p q : Bool) → q ≡ true → (p || q) ≡ true
+or-right true q h = refl
+or-right false q h = h
+
+pub neither : (p q : Bool) → p ≡ false → q ≡ false → (p || q) ≡ false
+neither true q h k = h
+neither false q h k = k
+
+pub not-left : (p q : Bool) → (p || q) ≡ false → p ≡ false
+not-left true q h = h
+not-left false q h = refl
+
+pub not-right : (p q : Bool) → (p || q) ≡ false → q ≡ false
+not-right true q h = absurd (true≢false h)
+not-right false q h = h
+
+-- ---- "and"
+pub and-both : (p q : Bool) → p ≡ true → q ≡ true → (p && q) ≡ true
+and-both true q h k = k
+and-both false q h k = h
+
+pub and-left : (p q : Bool) → (p && q) ≡ true → p ≡ true
+and-left true q h = refl
+and-left false q h = h
+
+pub and-right : (p q : Bool) → (p && q) ≡ true → q ≡ true
+and-right true q h = h
+and-right false q h = absurd (false≢true h)
+
+pub fails-left : (p q : Bool) → p ≡ false → (p && q) ≡ false
+fails-left true q h = absurd (true≢false h)
+fails-left false q h = refl
+
+pub fails-right : (p q : Bool) → q ≡ false → (p && q) ≡ false
+fails-right true q h = h
+fails-right false q h = refl
+
+-- ---- a choice
+
+-- by whether a test holds
+pub decided : (P : Bool → Type 0) (t : Bool) → (t ≡ true → P true) → (t ≡ false → P false) → P t
+decided P true p q = p refl
+decided P false p q = q refl
+
+-- what holds of each arm, where it is taken, holds of the choice
+pub chosen : {A : Type 0} (P : A → Type 0) (t : Bool) (x y : A) → (t ≡ true → P x) → (t ≡ false → P y) → P (cond t x y)
+chosen P true x y p q = p refl
+chosen P false x y p q = q refl
+
+pub either : {A : Type 0} (P : A → Type 0) (t : Bool) (x y : A) → P x → P y → P (cond t x y)
+either P t x y p q = chosen P t x y (λ h. p) (λ h. q)
+
+-- the arm that a test takes
+pub taken : {A : Type 0} (P : A → Type 0) (t : Bool) (x y : A) → t ≡ true → P x → P (cond t x y)
+taken P t x y h p = chosen P t x y (λ k. p) (λ k. absurd (true≢false (sym h ∙ k)))
+
+pub left : {A : Type 0} (P : A → Type 0) (t : Bool) (x y : A) → t ≡ false → P y → P (cond t x y)
+left P t x y h q = chosen P t x y (λ k. absurd (true≢false (sym k ∙ h))) (λ k. q)

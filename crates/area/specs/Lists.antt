@@ -1,0 +1,104 @@
+-- Demand 3: "one claim about the whole list, not one for each call".
+use Prim.Native.Nat.{ℕ, _+_}
+use mathlib.Core.Path.{_≡_}
+use mathlib.Core.Bool.{Bool, true, false}
+use mathlib.Core.List.{List, [], _∷_, map}
+use lib.Ieee.{Float, le, eq}
+use Rattle.numbers.specs.F32.{zero}
+use Rattle.numbers.specs.Scalar.{maxOf}
+use Rattle.area.specs.Pair.{num}
+use Rattle.area.specs.State.{clampedOffset}
+use Rattle.area.specs.Layout as At
+use Rattle.area.specs.Frame.{wordNo}
+use Rattle.area.specs.Call.{callOf}
+use Rattle.area.specs.Steps.{endedAt, answersFrom, stateFrom, acceptedFrom, isAccepted}
+use Rattle.area.specs.Moved.{extentOn, isMoved, isMovedByWords}
+use Rattle.area.specs.declared.state.State.{State}
+use Rattle.area.specs.declared.outcome.Outcome.{Outcome}
+use Rattle.area.specs.declared.outcome.Answer.{Answer}
+
+-- ---- what the two calls promise: their `ensures`, as they stand
+
+-- by value
+abbrev pub FrameSays : State → List ℕ → Answer → Type 0
+FrameSays given bytes r = r ≡ callOf given bytes
+
+-- lent: "the frame is changed into it there"
+pub record LentSays (given : State) (bytes : List ℕ) (outcome : Outcome) (left : State) : Type 0 where
+  pub answers : outcome ≡ callOf given bytes .outcome
+  pub leaves : left ≡ callOf given bytes .state
+
+-- ---- a list of calls, in any mix of the two forms
+pub data Call : Type 0 where
+  byValue : List ℕ → Call
+  lent : List ℕ → Call
+
+abbrev pub bytesOf : Call → List ℕ
+bytesOf (byValue bytes) = bytes
+bytesOf (lent bytes) = bytes
+
+-- Run s calls answers t: from the state s the calls gave these answers and left t. Each call keeps its own promise and is given what
+-- the call before it returned or left.
+pub data Run : State → List Call → List Answer → State → Type 0 where
+  ends : {s : State} → Run s [] [] s
+  returned : {s : State} {bytes : List ℕ} {r : Answer} {calls : List Call} {answers : List Answer} {t : State}
+      → FrameSays s bytes r → Run (r .state) calls answers t → Run s (byValue bytes ∷ calls) (r ∷ answers) t
+  left : {s : State} {bytes : List ℕ} {o : Outcome} {u : State} {calls : List Call} {answers : List Answer} {t : State}
+      → LentSays s bytes o u → Run u calls answers t → Run s (lent bytes ∷ calls) (record { state = u; outcome = o } ∷ answers) t
+
+-- ---- the distances
+
+-- "A frame's maximum offset is that of `end`"
+unfoldable pub maximumOffset : State → List ℕ → ℕ → Float
+maximumOffset S bytes d = extentOn (endedAt S bytes) d .«max_offset»
+
+-- "the list's end is the larger of 0 and it"
+abbrev pub listEnd : State → List ℕ → ℕ → Float
+listEnd S bytes d = maxOf (maximumOffset S bytes d) zero
+
+-- "The distance to a range is zero exactly where it contains the offset": the stored offset lies in 0 to the list's end
+abbrev pub IsInRange : State → List ℕ → Answer → ℕ → Type 0
+IsInRange S bytes r d = (le zero (num (r .state .offset) d) ≡ true) × (le (num (r .state .offset) d) (listEnd S bytes d) ≡ true)
+
+-- "to the end where the two compare equal": the shown offset is the list's end
+abbrev pub IsOnEnd : State → List ℕ → Answer → ℕ → Type 0
+IsOnEnd S bytes r d = eq (num (clampedOffset (r .state)) d) (listEnd S bytes d) ≡ true
+
+-- ---- along the answers
+
+-- after each accepted frame with word 39 equal to 0 the stored offset is in its range, on both axes
+abbrev pub RangeAlong : State → List (List ℕ) → List Answer → Type 0
+RangeAlong S (bytes ∷ rest) (r ∷ answers) =
+    (isAccepted r ≡ true → wordNo bytes At.kineticRubberBand ≡ 0 → IsInRange S bytes r 0 × IsInRange S bytes r 1) × RangeAlong (r .state) rest answers
+RangeAlong S [] [] = Unit {0}
+RangeAlong S [] (r ∷ answers) = ⊥
+RangeAlong S (bytes ∷ rest) [] = ⊥
+
+-- as long as every accepted frame sticks to the end on axis d and does not move it, the list shows its end after each of them
+abbrev pub EndAlong : (State → List ℕ → ℕ → Bool) → ℕ → State → List (List ℕ) → List Answer → Type 0
+EndAlong moved d S (bytes ∷ rest) (r ∷ answers) =
+    (isAccepted r ≡ true → wordNo bytes (At.stickToEnd + d) ≡ 1 → moved S bytes d ≡ false → IsOnEnd S bytes r d × EndAlong moved d (r .state) rest answers)
+    × (isAccepted r ≡ false → EndAlong moved d (r .state) rest answers)
+EndAlong moved d S [] [] = Unit {0}
+EndAlong moved d S [] (r ∷ answers) = ⊥
+EndAlong moved d S (bytes ∷ rest) [] = ⊥
+
+-- ---- the claim
+
+-- what holds of a list of calls from the state s, with their answers and the state t after them
+pub record Whole (s : State) (calls : List Call) (answers : List Answer) (t : State) : Type 0 where
+  -- "answers and state equal document 01's steps"
+  pub same-answers : answers ≡ answersFrom s (map bytesOf calls)
+  pub same-state : t ≡ stateFrom s (map bytesOf calls)
+  -- "the accepted frames alone reach the same state"
+  pub accepted-alone : stateFrom s (acceptedFrom s (map bytesOf calls)) ≡ t
+  -- "with rubber band off the stored offset lies in the range"
+  pub in-range : RangeAlong s (map bytesOf calls) answers
+  -- "a sticking axis that nobody moves shows the list's end": in the narrowest reading of a move, and in the one by words
+  pub on-end : EndAlong isMoved 0 s (map bytesOf calls) answers × EndAlong isMoved 1 s (map bytesOf calls) answers
+  pub on-end-by-words : EndAlong (λ S. isMovedByWords) 0 s (map bytesOf calls) answers × EndAlong (λ S. isMovedByWords) 1 s (map bytesOf calls) answers
+
+-- of every list of calls that begins at s; and each list has such a run
+pub record AllLists (s : State) : Type 0 where
+  pub whole : (calls : List Call) (answers : List Answer) (t : State) → Run s calls answers t → Whole s calls answers t
+  pub has-run : (calls : List Call) → Run s calls (answersFrom s (map bytesOf calls)) (stateFrom s (map bytesOf calls))
