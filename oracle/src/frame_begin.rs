@@ -4,6 +4,7 @@
 
 use std::array::from_fn;
 
+use crate::branches::{met, met_either, met_if, Branch};
 use crate::frame::{DragScroll, Fields, ScrollBarVisibility};
 use crate::frame_state::State;
 use crate::numbers::{abs, flag_as_number, interpolation_factor, lerp, max, min};
@@ -37,6 +38,9 @@ pub struct Prepared {
 pub fn begin(mut state: State, frame: &Fields) -> Prepared {
     state.offset[0] = frame.settings.offset_x.unwrap_or(state.offset[0]);
     state.offset[1] = frame.settings.offset_y.unwrap_or(state.offset[1]);
+
+    met_if(frame.settings.offset_x.is_some(), Branch::ExplicitOffset);
+    met_if(frame.settings.offset_y.is_some(), Branch::ExplicitOffset);
 
     let show_bars_factor = frame.host.bar_factors;
     let current_bar_use = current_bar_use(&state, frame, show_bars_factor);
@@ -79,6 +83,11 @@ fn current_bar_use(state: &State, frame: &Fields, show_bars_factor: [f32; 2]) ->
         ScrollBarVisibility::AlwaysVisible => frame.settings.direction_enabled,
     };
     let scroll_style = frame.style;
+    met_either(
+        scroll_style.floating,
+        Branch::FloatingBarUse,
+        Branch::SolidBarUse,
+    );
     if scroll_style.floating {
         from_fn(|d| flag_as_number(show_bars[1 - d]) * scroll_style.allocated_width)
     } else {
@@ -164,16 +173,23 @@ fn drag_or_step(prepared: &mut Prepared, frame: &Fields) {
     if background_drag_response.is_some_and(|response| response.dragged) {
         let pointer_delta = frame.host.pointer_delta;
         for d in 0..2 {
+            met_either(
+                direction_enabled[d],
+                Branch::Drag,
+                Branch::DragOnDisabledAxis,
+            );
             if direction_enabled[d] {
                 let physics = &axis_physics[d];
                 state.offset[d] = physics.drag(state.offset[d], -pointer_delta[d]);
                 rubber_banding[d] = physics.is_rubber_banding(state.offset[d]);
+                met_if(rubber_banding[d], Branch::RubberBandingInBegin);
                 state.scroll_stuck_to_end[d] = false;
                 state.offset_target[d] = None;
             }
         }
     } else {
         if background_drag_response.is_some_and(|response| response.drag_stopped) {
+            met(Branch::DragStopped);
             let velocity = frame.host.pointer_velocity;
             state.vel = from_fn(|d| -(flag_as_number(direction_enabled[d]) * velocity[d]));
         }
@@ -191,10 +207,14 @@ fn step(prepared: &mut Prepared, frame: &Fields) {
     for d in 0..2 {
         let physics = &prepared.axis_physics[d];
         let (offset, vel) = (&mut state.offset[d], &mut state.vel[d]);
-        if physics.step(offset, vel, dt(frame), hold_overscroll) {
+        met_if(hold_overscroll, Branch::HoldOverscroll);
+        let moves = physics.step(offset, vel, dt(frame), hold_overscroll);
+        met_either(moves, Branch::StepMoves, Branch::StepRests);
+        if moves {
             prepared.repaint = true;
         }
         prepared.rubber_banding[d] = physics.is_rubber_banding(state.offset[d]);
+        met_if(prepared.rubber_banding[d], Branch::RubberBandingInBegin);
     }
 }
 
@@ -206,12 +226,14 @@ fn move_towards_targets(prepared: &mut Prepared, frame: &Fields) {
 
             if abs(state.offset[d] - scroll_target.target_offset) < 1.0 {
                 // Arrived
+                met(Branch::TargetNear);
                 state.offset[d] = scroll_target.target_offset;
                 state.offset_target[d] = None;
             } else {
                 // Move towards target
                 let (start, end) = scroll_target.animation_time_span;
                 let t = interpolation_factor(start, end, frame.host.time, dt(frame));
+                met_either(t < 1.0, Branch::TargetMoves, Branch::TargetArrives);
                 if t < 1.0 {
                     state.offset[d] = lerp(state.offset[d], scroll_target.target_offset, t);
                     prepared.repaint = true;

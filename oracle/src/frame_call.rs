@@ -5,8 +5,9 @@ use crate::frame_begin::begin;
 use crate::frame_checks::{frame_refusal, LENGTH};
 use crate::frame_end::end;
 use crate::frame_state::State;
+use crate::records::write_output;
 use crate::rectangles::{Pos2, Rect};
-use crate::words::in_hex;
+use crate::words::{from_bytes, in_hex};
 
 /// The answer of a frame call; on a refusal the state is the one given and the rest is zeros.
 #[derive(Clone, Copy, Debug, PartialEq)]
@@ -25,10 +26,15 @@ pub struct Output {
 
 /// One frame on a state by value.
 pub fn frame_call(state: State, bytes: &[u8]) -> Output {
-    let refusal = match frame_refusal(bytes) {
-        0 => state.refusal(),
-        refusal => refusal,
-    };
+    match frame_refusal(bytes) {
+        0 => call_on_checked_frame(state, bytes),
+        refusal => Output::refused(refusal, state),
+    }
+}
+
+/// The same on bytes that checks 1 to 5 let through.
+pub fn call_on_checked_frame(state: State, bytes: &[u8]) -> Output {
+    let refusal = state.refusal();
     if refusal != 0 {
         return Output::refused(refusal, state);
     }
@@ -116,25 +122,11 @@ impl Output {
         format!("{}{state}{}\n", self.refusal, in_hex(&self.record()))
     }
 
-    /// The outputs other than refusal and state: an option is a flag, then its words or zeros.
+    /// The words of the record of the outputs other than refusal and state.
     pub fn record(&self) -> [u32; 25] {
-        let pair = |pair: [f32; 2]| pair.map(f32::to_bits).to_vec();
-        let rect = |rect: Rect| corners(&rect).map(f32::to_bits).to_vec();
-        let option = |handle: Option<Rect>| match handle {
-            Some(handle) => [vec![1], rect(handle)].concat(),
-            None => vec![0; 5],
-        };
-        let fields = [
-            pair(self.content_size),
-            rect(self.inner_rect),
-            rect(self.viewport),
-            option(self.handle_rects[0]),
-            option(self.handle_rects[1]),
-            pair(self.wheel_delta_left),
-            pair(self.scroll_delta_left),
-            vec![u32::from(self.repaint)],
-        ];
-        fields.concat().try_into().expect("25 words")
+        let mut bytes = [0; 100];
+        write_output(self, &mut bytes);
+        from_bytes(&bytes).try_into().expect("25 words")
     }
 }
 

@@ -46,15 +46,15 @@ fn is_on(frame: &[u8], flag: usize) -> bool {
     word(frame, flag) != 0
 }
 
-/// The entries outside options, and those inside the options that are there.
-fn due<T: Copy>(frame: &[u8], always: &[T], optional: &[(usize, &[T])]) -> Vec<T> {
-    let mut entries = always.to_vec();
-    for (flag, inside) in optional {
-        if is_on(frame, *flag) {
-            entries.extend(*inside);
-        }
-    }
-    entries
+/// Whether a test holds of the entries outside options, and of those inside the options that are there.
+fn holds<T: Copy>(
+    frame: &[u8],
+    always: &[T],
+    optional: &[(usize, &[T])],
+    test: impl Fn(T) -> bool,
+) -> bool {
+    let all = |entries: &[T]| entries.iter().all(|entry| test(*entry));
+    all(always) && (optional.iter()).all(|(flag, inside)| !is_on(frame, *flag) || all(inside))
 }
 
 /// Check 2: "flag is 0 or 1".
@@ -70,8 +70,9 @@ fn flags_hold(frame: &[u8]) -> bool {
 fn kinds_hold(frame: &[u8]) -> bool {
     let always = [(9, 2), (20, 2), (63, 4)];
     let optional: [(usize, &[(usize, u32)]); 2] = [(91, &[(94, 3)]), (98, &[(101, 3)])];
-    let kinds = due(frame, &always, &optional);
-    kinds.iter().all(|(kind, last)| word(frame, *kind) <= *last)
+    holds(frame, &always, &optional, |(kind, last)| {
+        word(frame, kind) <= last
+    })
 }
 
 /// Not-a-number and both infinities are outside.
@@ -95,15 +96,16 @@ fn numbers_hold(frame: &[u8]) -> bool {
         (91, &[92, 93, 96, 97]),
         (98, &[99, 100, 103, 104]),
     ];
-    let numbers = due(frame, &always, &optional);
-    numbers.iter().all(|n| is_within_limit(float(frame, *n)))
+    holds(frame, &always, &optional, |n| {
+        is_within_limit(float(frame, n))
+    })
 }
 
 /// Check 3: "the same or +infinity".
 fn unbounded_numbers_hold(frame: &[u8]) -> bool {
-    let numbers = due(frame, &[5, 6, 88], &[(91, &[95]), (98, &[102])]);
-    numbers.iter().all(|n| {
-        let x = float(frame, *n);
+    let optional: [(usize, &[usize]); 2] = [(91, &[95]), (98, &[102])];
+    holds(frame, &[5, 6, 88], &optional, |n| {
+        let x = float(frame, n);
         is_within_limit(x) || x == f32::INFINITY
     })
 }
@@ -123,9 +125,9 @@ fn ends_hold(frame: &[u8]) -> bool {
         (91, &[(93, 92), (97, 96)]),
         (98, &[(100, 99), (104, 103)]),
     ];
-    let pairs = due(frame, &always, &optional);
-    let holds = |(end, start): &(usize, usize)| float(frame, *start) <= float(frame, *end);
-    pairs.iter().all(holds)
+    holds(frame, &always, &optional, |(end, start)| {
+        float(frame, start) <= float(frame, end)
+    })
 }
 
 /// Check 4: "not negative"; -0 compares equal to 0.
@@ -149,6 +151,6 @@ fn kinetics_hold(frame: &[u8]) -> bool {
 
 /// Check 5: "88, 95 if 91, 102 if 98 above 0"; neither zero is above 0.
 fn speeds_hold(frame: &[u8]) -> bool {
-    let speeds = due(frame, &[88], &[(91, &[95]), (98, &[102])]);
-    speeds.iter().all(|n| 0.0 < float(frame, *n))
+    let optional: [(usize, &[usize]); 2] = [(91, &[95]), (98, &[102])];
+    holds(frame, &[88], &optional, |n| 0.0 < float(frame, n))
 }

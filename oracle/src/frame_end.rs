@@ -4,6 +4,7 @@
 
 use std::array::from_fn;
 
+use crate::branches::{met, met_either, met_if, Branch};
 use crate::frame::{Fields, ScrollBarVisibility};
 use crate::frame_begin::Prepared;
 use crate::frame_end_bars::{bars, ClampPanics};
@@ -84,6 +85,9 @@ impl Measures {
             direction_enabled[0] && (ceil(limit_rect.width()) < content_size[0]),
             direction_enabled[1] && (ceil(limit_rect.height()) < content_size[1]),
         ];
+        for large in content_is_too_large {
+            met_if(large, Branch::TooLarge);
+        }
         Measures {
             content_size,
             inner_rect,
@@ -100,6 +104,10 @@ fn inner_rect(prepared: &Prepared, frame: &Fields) -> Rect {
     // The rectangle's size, which is not always the one that it was made from.
     let mut inner_size = prepared.inner_rect.size();
     for d in 0..2 {
+        met(branch_of(
+            settings.direction_enabled[d],
+            settings.auto_shrink[d],
+        ));
         inner_size[d] = match (settings.direction_enabled[d], settings.auto_shrink[d]) {
             (true, true) => min(inner_size[d], content_size[d]),
             (true, false) => inner_size[d],
@@ -108,6 +116,15 @@ fn inner_rect(prepared: &Prepared, frame: &Fields) -> Rect {
         };
     }
     Rect::from_min_size(prepared.inner_rect.min, inner_size)
+}
+
+fn branch_of(direction_enabled: bool, auto_shrink: bool) -> Branch {
+    match (direction_enabled, auto_shrink) {
+        (true, true) => Branch::EnabledShrinks,
+        (true, false) => Branch::EnabledStays,
+        (false, true) => Branch::DisabledShrinks,
+        (false, false) => Branch::DisabledGrows,
+    }
 }
 
 /// Which bars are to show in this frame; one that was gone has the factor on opening.
@@ -119,6 +136,7 @@ fn open_bars(prepared: &mut Prepared, frame: &Fields, measures: &Measures) -> [b
     };
     for d in 0..2 {
         if show_scroll_this_frame[d] && prepared.show_bars_factor[d] <= 0.0 {
+            met(Branch::Opens);
             prepared.show_bars_factor[d] = frame.host.bar_factors_on_opening[d];
         }
     }
@@ -131,6 +149,11 @@ fn clamp_and_stick(prepared: &mut Prepared, frame: &Fields, measures: &Measures,
     let inner_size = measures.inner_rect.size();
     let available_offset: [f32; 2] = from_fn(|d| measures.content_size[d] - inner_size[d]);
     for d in 0..2 {
+        met_either(
+            prepared.rubber_banding[d],
+            Branch::BandSkipsClamp,
+            Branch::LastClamp,
+        );
         if !prepared.rubber_banding[d] {
             state.offset[d] = scroll_bounds(available_offset[d]).clamp(state.offset[d]);
         }
@@ -140,6 +163,16 @@ fn clamp_and_stick(prepared: &mut Prepared, frame: &Fields, measures: &Measures,
     let suppress_stuck_recompute: [bool; 2] =
         from_fn(|d| taken.had_explicit_scroll_adjustment[d] && state.offset_target[d].is_some());
 
+    for d in 0..2 {
+        let at_end = state.offset[d] == available_offset[d];
+        let short = stick_to_end[d] && available_offset[d] < 0.0;
+        met_if(suppress_stuck_recompute[d], Branch::StuckSuppressed);
+        met_if(!suppress_stuck_recompute[d] && at_end, Branch::StuckAtEnd);
+        met_if(
+            !suppress_stuck_recompute[d] && !at_end && short,
+            Branch::StuckShort,
+        );
+    }
     state.scroll_stuck_to_end = from_fn(|d| {
         !suppress_stuck_recompute[d]
             && ((state.offset[d] == available_offset[d])

@@ -2,6 +2,7 @@
 
 #![expect(clippy::needless_range_loop)] // the loop is the Rust's
 
+use crate::branches::{met, met_either, met_if, Branch};
 use crate::frame::Fields;
 use crate::frame_begin::Prepared;
 use crate::frame_end::Measures;
@@ -28,11 +29,13 @@ pub fn bars(
             && state.scroll_stuck_to_end[d]
             && !taken.had_explicit_scroll_adjustment[d]
         {
+            met(Branch::Sticks);
             state.offset[d] = measures.content_size[d] - measures.inner_rect.size()[d];
         }
 
         let show_factor = prepared.show_bars_factor[d];
         if show_factor == 0.0 {
+            met(Branch::HiddenBar);
             state.scroll_bar_interaction[d] = false;
             continue;
         }
@@ -65,6 +68,10 @@ struct Bar {
 
 impl Bar {
     fn of(frame: &Fields, measures: &Measures, show_factor: f32, d: usize) -> Bar {
+        met_if(
+            frame.settings.scroll_bar_rect.is_some(),
+            Branch::GivenBarRect,
+        );
         Bar {
             d,
             content_size: measures.content_size,
@@ -133,7 +140,10 @@ impl Bar {
         if let Some(pointer_pos) = interact_pointer_pos {
             let scroll_start_offset_from_top_left = match state.scroll_start_offset_from_top_left[d]
             {
-                Some(stored) => stored,
+                Some(stored) => {
+                    met(Branch::StoredPress);
+                    stored
+                }
                 None => self.place_of_new_press(handle_rect, pointer_pos)?,
             };
             state.scroll_start_offset_from_top_left[d] = Some(scroll_start_offset_from_top_left);
@@ -143,6 +153,7 @@ impl Bar {
                 scroll_bar_rect.min[d],
                 scroll_bar_rect.max[d] - handle_rect.size()[d],
             );
+            met_if(travel_start == travel_end, Branch::NoTravel);
             state.offset[d] = if travel_start == travel_end {
                 0.0
             } else {
@@ -162,6 +173,7 @@ impl Bar {
     fn place_of_new_press(&self, handle_rect: Rect, pointer_pos: Pos2) -> Result<f32, ClampPanics> {
         let (d, scroll_bar_rect) = (self.d, self.scroll_bar_rect);
         if handle_rect.contains(pointer_pos) {
+            met(Branch::PressOnHandle);
             Ok(pointer_pos[d] - handle_rect.min[d])
         } else {
             let handle_top_pos_at_bottom = scroll_bar_rect.max[d] - handle_rect.size()[d];
@@ -170,6 +182,7 @@ impl Bar {
                 scroll_bar_rect.min[d],
                 handle_top_pos_at_bottom,
             )?;
+            met(Branch::PressBesideHandle);
             Ok(pointer_pos[d] - new_handle_top_pos)
         }
     }
@@ -181,6 +194,7 @@ impl Bar {
             state.offset[d] = scroll_bounds(self.max_offset[d]).clamp(state.offset[d]);
 
             if state.offset[d] != unbounded_offset {
+                met(Branch::ClampZeroesVelocity);
                 state.vel[d] = 0.0;
             }
         }
@@ -196,9 +210,11 @@ fn cross(frame: &Fields, measures: &Measures, show_factor: f32, d: usize) -> Ran
 
     let mut max_cross = measures.outer_rect.max[1 - d] - outer_margin;
     if clip_rect.max[1 - d] - outer_margin < max_cross {
+        met(Branch::CrossByClip);
         max_cross = clip_rect.max[1 - d] - outer_margin;
     }
 
+    met_either(scroll_style.floating, Branch::FloatingBar, Branch::SolidBar);
     let full_width = scroll_style.bar_width;
     if scroll_style.floating {
         let is_hovering_bar_area_t = frame.host.hover_factors[d];
@@ -221,6 +237,7 @@ fn clamp_or_panic(x: f32, start: f32, end: f32) -> Result<f32, ClampPanics> {
     if start <= end {
         Ok(clamp(x, start, end))
     } else {
+        met(Branch::PressBlocked);
         Err(ClampPanics)
     }
 }

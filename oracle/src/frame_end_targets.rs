@@ -1,5 +1,6 @@
 //! The first part of egui's `Prepared::end`: scroll targets and scroll deltas.
 
+use crate::branches::{met, Branch};
 use crate::frame::{Fields, ScrollAnimation, ScrollTarget};
 use crate::frame_begin::Prepared;
 use crate::frame_state::{ScrollingToTarget, State};
@@ -58,6 +59,7 @@ fn delta_to_target(prepared: &Prepared, frame: &Fields, target: ScrollTarget, d:
     let mut spacing = frame.style.item_spacing[d];
 
     if let Some(align) = align {
+        met(Branch::AlignedTarget);
         let center_factor = align.to_factor();
 
         let offset = lerp(range.min, range.max, center_factor)
@@ -67,11 +69,14 @@ fn delta_to_target(prepared: &Prepared, frame: &Fields, target: ScrollTarget, d:
 
         offset + spacing - prepared.state.offset[d]
     } else if start < clip_start && end < clip_end {
+        met(Branch::TargetBefore);
         // The minimum is negated, not its first operand.
         -min(clip_start - start + spacing, clip_end - end - spacing)
     } else if end > clip_end && start > clip_start {
+        met(Branch::TargetBehind);
         min(end - clip_end + spacing, start - clip_start - spacing)
     } else {
+        met(Branch::TargetInView);
         0.0
     }
 }
@@ -81,10 +86,13 @@ fn scroll_by(state: &mut State, frame: &Fields, delta: f32, animation: ScrollAni
     let target_offset = state.offset[d] + delta;
 
     if !frame.settings.animated {
+        met(Branch::Jump);
         state.offset[d] = target_offset;
     } else if let Some(animation) = &mut state.offset_target[d] {
+        met(Branch::MovedTarget);
         animation.target_offset = target_offset;
     } else {
+        met(Branch::NewTarget);
         let now = frame.host.time;
         let animation_duration = animation
             .duration

@@ -1,5 +1,6 @@
 //! The part of egui's `Prepared::end` that applies the wheel.
 
+use crate::branches::{met_either, met_if, Branch};
 use crate::frame::Fields;
 use crate::frame_begin::{dt, Prepared};
 use crate::frame_end::Measures;
@@ -12,14 +13,16 @@ pub fn wheel(prepared: &mut Prepared, frame: &Fields, measures: &Measures) -> [f
         .background_drag_response
         .is_some_and(|response| response.dragged);
 
-    if frame.settings.mouse_wheel
+    let heard = frame.settings.mouse_wheel
         && frame.host.is_enabled
-        && (frame.host.rect_contains_pointer(measures.outer_rect) || is_dragging_background)
-    {
+        && (frame.host.rect_contains_pointer(measures.outer_rect) || is_dragging_background);
+    met_either(heard, Branch::WheelHeard, Branch::WheelNotHeard);
+    if heard {
         let direction_enabled = frame.settings.direction_enabled;
         let always_scroll_enabled_direction = frame.style.always_scroll_the_only_direction
             && direction_enabled[0] != direction_enabled[1];
 
+        met_if(always_scroll_enabled_direction, Branch::OnlyDirection);
         for d in 0..2 {
             if direction_enabled[d] {
                 let scroll_delta = if always_scroll_enabled_direction {
@@ -69,6 +72,7 @@ fn wheel_axis(
         &mut state.bounced_this_momentum[d],
     );
 
+    met_either(consumed, Branch::WheelTaken, Branch::WheelLeft);
     if consumed {
         prepared.rubber_banding[d] = physics.is_rubber_banding(state.offset[d]);
         state.scroll_stuck_to_end[d] = false;

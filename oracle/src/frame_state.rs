@@ -1,6 +1,8 @@
-//! The state that a frame call is given: egui's fields, their record of 37 words, and check 6.
+//! The state that a frame call is given: egui's fields, and check 6.
 
+use crate::records::write_state;
 use crate::rectangles::Rect;
+use crate::words::from_bytes;
 
 /// A scroll target under way, as egui's type of that name.
 #[derive(Clone, Copy, Debug, PartialEq)]
@@ -45,25 +47,11 @@ impl Default for State {
 }
 
 impl State {
-    /// The record: the fields in the Rust's order, absent options with all words 0.
+    /// The words of its record.
     pub fn record(&self) -> [u32; 37] {
-        let numbers = |pair: [f32; 2]| pair.map(f32::to_bits).to_vec();
-        let flags = |pair: [bool; 2]| pair.map(u32::from).to_vec();
-        let presses = self.scroll_start_offset_from_top_left;
-        let fields = [
-            numbers(self.offset),
-            numbers(self.max_offset),
-            self.offset_target.map(target_words).concat(),
-            flags(self.show_scroll),
-            flags(self.content_is_too_large),
-            flags(self.scroll_bar_interaction),
-            numbers(self.vel),
-            presses.map(press_words).concat(),
-            flags(self.scroll_stuck_to_end),
-            rectangle_words(self.interact_rect).to_vec(),
-            flags(self.bounced_this_momentum),
-        ];
-        fields.concat().try_into().expect("37 words")
+        let mut bytes = [0; 148];
+        write_state(self, &mut bytes);
+        from_bytes(&bytes).try_into().expect("37 words")
     }
 
     /// Check 6: "A number in the given state is not finite: 6", or 0; absent options hold no number.
@@ -91,30 +79,4 @@ fn target_holds(target: &ScrollingToTarget) -> bool {
 fn rectangle_holds(rectangle: &Rect) -> bool {
     let Rect { min, max } = rectangle;
     [min.x, min.y, max.x, max.y].iter().all(|x| x.is_finite())
-}
-
-/// The low word, then the high word.
-fn double_words(x: f64) -> [u32; 2] {
-    let bits = x.to_bits();
-    [bits as u32, (bits >> 32) as u32]
-}
-
-fn target_words(target: Option<ScrollingToTarget>) -> [u32; 6] {
-    let Some(target) = target else { return [0; 6] };
-    let [start_low, start_high] = double_words(target.animation_time_span.0);
-    let [end_low, end_high] = double_words(target.animation_time_span.1);
-    let goal = target.target_offset.to_bits();
-    [1, start_low, start_high, end_low, end_high, goal]
-}
-
-fn press_words(press: Option<f32>) -> [u32; 2] {
-    press.map_or([0; 2], |x| [1, x.to_bits()])
-}
-
-fn rectangle_words(rectangle: Option<Rect>) -> [u32; 5] {
-    let Some(Rect { min, max }) = rectangle else {
-        return [0; 5];
-    };
-    let [left, top, right, bottom] = [min.x, min.y, max.x, max.y].map(f32::to_bits);
-    [1, left, top, right, bottom]
 }

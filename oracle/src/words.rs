@@ -53,3 +53,9 @@ pub fn shown(x: f32) -> u32 {
 pub fn in_bytes(words: &[u32]) -> Vec<u8> {
     words.iter().flat_map(|word| word.to_le_bytes()).collect()
 }
+
+/// The words of a record, from their bytes.
+pub fn from_bytes(record: &[u8]) -> Vec<u32> {
+    let word = |part: &[u8]| u32::from_le_bytes(part.try_into().expect("four bytes"));
+    record.chunks(4).map(word).collect()
+}

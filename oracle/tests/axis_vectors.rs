@@ -1,12 +1,10 @@
 //! The shape of the axis calls, and what they meet.
 
-use oracle::axis_vectors::{fixed_list, random_list, Call, Kind};
+mod common;
 
-/// The words of a record, from their bytes.
-fn words_of(record: &[u8]) -> Vec<u32> {
-    let word = |part: &[u8]| u32::from_le_bytes(part.try_into().expect("four bytes"));
-    record.chunks(4).map(word).collect()
-}
+use common::assert_no_record_repeats;
+use oracle::axis_vectors::{fixed_list, random_list, Call, Kind};
+use oracle::words::from_bytes;
 
 /// How many calls of that kind meet that refusal.
 fn count(list: &[Call], kind: Kind, refusal: u32) -> usize {
@@ -19,7 +17,7 @@ fn every_record_has_56_bytes_and_begins_with_the_kind() {
     for call in fixed_list().iter().chain(&random_list(1, 1000)) {
         let record = call.input_record();
         assert_eq!(record.len(), 56);
-        assert_eq!(words_of(&record)[0], call.kind() as u32);
+        assert_eq!(from_bytes(&record)[0], call.kind() as u32);
     }
 }
 
@@ -28,7 +26,7 @@ fn every_line_shows_the_operands_and_the_whole_answer() {
     for call in fixed_list().iter().chain(&random_list(1, 1000)) {
         let kind = call.kind();
         let used = kind.used();
-        let words = words_of(&call.input_record());
+        let words = from_bytes(&call.input_record());
         let line = call.output_line();
         let shown: Vec<&str> = line.trim_end().split(' ').collect();
         assert_eq!((shown[0], shown[used + 1]), (kind.name(), "="));
@@ -51,11 +49,7 @@ fn every_line_shows_the_operands_and_the_whole_answer() {
 fn the_fixed_list_has_its_size_and_repeats_no_record() {
     let list = fixed_list();
     assert!((600..=800).contains(&list.len()), "{} calls", list.len());
-    let mut records: Vec<Vec<u8>> = list.iter().map(Call::input_record).collect();
-    records.sort();
-    for pair in records.windows(2) {
-        assert_ne!(pair[0], pair[1]);
-    }
+    assert_no_record_repeats(list.iter().map(Call::input_record).collect());
 }
 
 #[test]

@@ -1,20 +1,18 @@
 //! The shape of the frame calls, and what they meet.
 
+mod common;
+
+use common::assert_no_record_repeats;
 use oracle::frame_state::State;
 use oracle::frame_vectors::{bare, fixed_list, full, random_list, Call};
-
-/// The words of a record, from their bytes.
-fn words_of(record: &[u8]) -> Vec<u32> {
-    let word = |part: &[u8]| u32::from_le_bytes(part.try_into().expect("four bytes"));
-    record.chunks(4).map(word).collect()
-}
+use oracle::words::from_bytes;
 
 #[test]
 fn every_record_has_576_bytes_and_begins_with_the_length() {
     for call in fixed_list().iter().chain(&random_list(1, 1000)) {
         let record = call.input_record();
         assert_eq!(record.len(), 576);
-        let length = words_of(&record)[0] as usize;
+        let length = from_bytes(&record)[0] as usize;
         assert!(length <= 424);
         assert!(record[4 + length..428].iter().all(|byte| *byte == 0));
         // The length alone decides about 1, whatever the bytes are.
@@ -24,9 +22,9 @@ fn every_record_has_576_bytes_and_begins_with_the_length() {
 
 #[test]
 fn the_first_record_is_the_bare_frame_with_a_fresh_state() {
-    let words = words_of(&fixed_list()[0].input_record());
+    let words = from_bytes(&fixed_list()[0].input_record());
     assert_eq!(words[0], 416);
-    assert_eq!(words[1..105], words_of(&bare().bytes()));
+    assert_eq!(words[1..105], from_bytes(&bare().bytes()));
     assert_eq!(words[105..107], [0, 0]);
     assert_eq!(words[107..], State::default().record());
 }
@@ -43,11 +41,7 @@ fn every_line_is_one_digit() {
 fn the_fixed_list_has_its_size_and_repeats_no_record() {
     let list = fixed_list();
     assert!((1400..=1600).contains(&list.len()), "{} calls", list.len());
-    let mut records: Vec<Vec<u8>> = list.iter().map(Call::input_record).collect();
-    records.sort();
-    for pair in records.windows(2) {
-        assert_ne!(pair[0], pair[1]);
-    }
+    assert_no_record_repeats(list.iter().map(Call::input_record).collect());
 }
 
 #[test]
@@ -63,10 +57,10 @@ fn every_refusal_is_met() {
 /// For each word, some refused call differs from the full frame there and nowhere else.
 #[test]
 fn every_word_of_the_full_frame_is_refused_by_itself() {
-    let good = words_of(&full().bytes());
+    let good = from_bytes(&full().bytes());
     let calls: Vec<(Vec<u32>, u32)> = fixed_list()
         .iter()
-        .map(|call| (words_of(&call.input_record()), call.refusal()))
+        .map(|call| (from_bytes(&call.input_record()), call.refusal()))
         .filter(|(words, refusal)| words[0] == 416 && (2..=5).contains(refusal))
         .collect();
     // The low word of a time in range cannot leave the range alone.

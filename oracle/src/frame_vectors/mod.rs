@@ -25,7 +25,7 @@ use crate::words::in_bytes;
 pub use fixed::fixed_list;
 pub use frame::Frame;
 pub use good::{bare, example, full};
-pub use random::random_list;
+pub use random::{random_list, random_state};
 pub use tally::tally;
 
 /// How many bytes of a frame a record stores.

@@ -49,7 +49,7 @@ fn good_frame(random: &mut Random) -> Frame {
 }
 
 /// Mostly a good state; in one case of four a number of any kind is put into it.
-fn random_state(random: &mut Random) -> State {
+pub fn random_state(random: &mut Random) -> State {
     let mut state = match random.below(4) {
         0 => State::default(),
         1 => stored(),

@@ -1,0 +1,106 @@
+//! How often each branch of `begin` and `end` is met; without the feature `branches` nothing is counted.
+
+macro_rules! branches {
+    ($($branch:ident $words:literal)*) => {
+        /// A branch of the steps.
+        #[derive(Clone, Copy, Debug)]
+        pub enum Branch { $($branch),* }
+
+        /// The branches in words, in the order of the steps.
+        pub const BRANCHES: &[(Branch, &str)] = &[$((Branch::$branch, $words)),*];
+    };
+}
+
+branches! {
+    ExplicitOffset "explicit offset"
+    FloatingBarUse "floating bars take space in begin"
+    SolidBarUse "solid bars take space in begin"
+    Drag "background drag on an enabled axis"
+    DragOnDisabledAxis "background drag, axis not enabled"
+    DragStopped "end of a background drag"
+    HoldOverscroll "step with the overscroll held"
+    StepMoves "step that moves"
+    StepRests "step that rests"
+    RubberBandingInBegin "rubber banding after drag or step"
+    TargetNear "target under way, less than 1 away"
+    TargetMoves "target under way, on its way"
+    TargetArrives "target under way, time is over"
+    AlignedTarget "scroll target with an align"
+    TargetBefore "scroll target before the view"
+    TargetBehind "scroll target behind the view"
+    TargetInView "scroll target in view"
+    Jump "scroll by a delta, not animated"
+    NewTarget "scroll by a delta, new target under way"
+    MovedTarget "scroll by a delta, target under way is moved"
+    EnabledShrinks "inner size: enabled, shrinks"
+    EnabledStays "inner size: enabled, does not shrink"
+    DisabledShrinks "inner size: not enabled, shrinks"
+    DisabledGrows "inner size: not enabled, does not shrink"
+    TooLarge "content is too large"
+    WheelHeard "wheel is heard"
+    WheelNotHeard "wheel is not heard"
+    OnlyDirection "wheel takes the only direction"
+    WheelTaken "wheel delta is taken"
+    WheelLeft "wheel delta is left"
+    Opens "bar factor on opening"
+    Sticks "offset is put on the end"
+    HiddenBar "bar factor is 0"
+    GivenBarRect "scroll_bar_rect is given"
+    FloatingBar "floating bar"
+    SolidBar "solid bar"
+    CrossByClip "bar is moved inside the clip"
+    StoredPress "press goes on"
+    PressOnHandle "new press on the handle"
+    PressBesideHandle "new press beside the handle"
+    PressBlocked "new press beside a handle without room: 7"
+    NoTravel "press on a bar without travel"
+    ClampZeroesVelocity "clamp after the bar zeroes the velocity"
+    BandSkipsClamp "rubber banding skips the last clamp"
+    LastClamp "last clamp"
+    StuckSuppressed "stuck flag is not recomputed"
+    StuckAtEnd "stuck: offset is the end"
+    StuckShort "stuck: content is short"
+}
+
+#[cfg(feature = "branches")]
+mod counts {
+    use super::{Branch, BRANCHES};
+    use std::cell::Cell;
+
+    thread_local! {
+        static COUNTS: [Cell<u64>; BRANCHES.len()] = const { [const { Cell::new(0) }; BRANCHES.len()] };
+    }
+
+    pub fn met(branch: Branch) {
+        COUNTS.with(|counts| {
+            let count = &counts[branch as usize];
+            count.set(count.get() + 1);
+        });
+    }
+
+    /// How often a branch was met in this thread.
+    pub fn count_of(branch: Branch) -> u64 {
+        COUNTS.with(|counts| counts[branch as usize].get())
+    }
+}
+
+#[cfg(feature = "branches")]
+pub use counts::{count_of, met};
+
+#[cfg(not(feature = "branches"))]
+#[inline(always)]
+pub fn met(_: Branch) {}
+
+/// The first branch where the test holds, else the second.
+#[inline(always)]
+pub fn met_either(test: bool, first: Branch, second: Branch) {
+    met(if test { first } else { second });
+}
+
+/// The branch where the test holds.
+#[inline(always)]
+pub fn met_if(test: bool, branch: Branch) {
+    if test {
+        met(branch);
+    }
+}

@@ -1,0 +1,107 @@
+//! The calls of the host library on records of 32-bit little-endian words, under document 01's refusals.
+//!
+//! Each takes and leaves the bytes that the library's function of the same name does.
+
+use crate::axis_calls;
+use crate::frame_call::call_on_checked_frame;
+use crate::frame_checks::frame_refusal;
+use crate::frame_state::State;
+use crate::records::{read_state, write_output, write_state, OutBytes, Reader, StateBytes, Writer};
+use crate::scroll_physics::{scroll_bounds, WheelScroll};
+
+pub fn fresh(state: &mut StateBytes) {
+    write_state(&State::default(), state);
+}
+
+/// 0 or the refusal; on a refusal neither buffer changes.
+pub fn frame(state: &mut StateBytes, frame: &[u8], out: &mut OutBytes) -> u32 {
+    let refusal = frame_refusal(frame);
+    if refusal != 0 {
+        return refusal;
+    }
+    let Some(given) = read_state(state) else {
+        return 6;
+    };
+    let output = call_on_checked_frame(given, frame);
+    if output.refusal == 0 {
+        write_state(&output.state, state);
+        write_output(&output, out);
+    }
+    output.refusal
+}
+
+/// The shown offset.
+pub fn offset(state: &StateBytes, out: &mut [u8; 8]) -> u32 {
+    let Some(state) = read_state(state) else {
+        return 6;
+    };
+    let mut writer = Writer::on(out);
+    for d in 0..2 {
+        writer.number(scroll_bounds(state.max_offset[d]).clamp(state.offset[d]));
+    }
+    0
+}
+
+pub fn drag(call: &[u8; 32], out: &mut [u8; 4]) -> u32 {
+    out.copy_from_slice(&call[24..28]);
+    let mut reader = Reader::of(call);
+    let Some(axis) = reader.axis() else {
+        return 2;
+    };
+    let (offset, delta) = (reader.number(), reader.number());
+    let answer = axis_calls::drag(&axis, offset, delta);
+    if answer.refusal == 0 {
+        Writer::on(out).number(answer.offset);
+    }
+    answer.refusal
+}
+
+pub fn step(call: &[u8; 40], out: &mut [u8; 12]) -> u32 {
+    out[..8].copy_from_slice(&call[24..32]);
+    out[8..].fill(0);
+    let mut reader = Reader::of(call);
+    let axis = reader.axis();
+    let (offset, velocity, dt) = (reader.number(), reader.number(), reader.number());
+    let (Some(axis), Some(hold)) = (axis, reader.flag()) else {
+        return 2;
+    };
+    let answer = axis_calls::step(&axis, offset, velocity, dt, hold);
+    if answer.refusal == 0 {
+        let mut writer = Writer::on(out);
+        writer.number(answer.offset);
+        writer.number(answer.velocity);
+        writer.flag(answer.answer);
+    }
+    answer.refusal
+}
+
+pub fn wheel(call: &[u8; 52], out: &mut [u8; 16]) -> u32 {
+    out[..8].copy_from_slice(&call[24..32]);
+    out[8..12].copy_from_slice(&call[48..]);
+    out[12..].fill(0);
+    let mut reader = Reader::of(call);
+    let axis = reader.axis();
+    let (offset, velocity, delta) = (reader.number(), reader.number(), reader.number());
+    let (source, can_chain_to_parent) = (reader.source(), reader.flag());
+    let dt = reader.number();
+    let (Some(axis), Some(source), Some(can_chain_to_parent), Some(bounced)) =
+        (axis, source, can_chain_to_parent, reader.flag())
+    else {
+        return 2;
+    };
+    let scroll = WheelScroll {
+        delta,
+        source,
+        can_chain_to_parent,
+        dt,
+    };
+    let answer = axis_calls::wheel(&axis, offset, velocity, scroll, bounced);
+    if answer.refusal == 0 {
+        let mut writer = Writer::on(out);
+        writer.number(answer.offset);
+        writer.number(answer.velocity);
+        writer.flag(answer.bounced);
+        writer.flag(answer.answer);
+    }
+    answer.refusal
+}
