@@ -64,15 +64,11 @@ unfoldable pub contentClipOf : Bool → Rangef → Float → Rangef → Rangef
 contentClipOf directionEnabled inner barUse clip =
     cond directionEnabled (intersectSideOf inner clip) (intersectSideOf (clipLessBar barUse clip) clip)
 
--- the space of axis d
-unfoldable pub spaceOf : Frame → State → ℕ → ℕ → AxisSpace
-spaceOf f s d e =
-    let directionEnabled = flag (f .settings .«direction_enabled») d in
-    let barUse = currentBarUseOf f s e in
-    let available = sideOf (f .host .available) d in
-    let clip = sideOf (f .host .clip) d in
-    let size = minus (outerSize available (num (f .settings .«max_size») d)) barUse in
-    let innerSize = innerSizeOf directionEnabled size (num (f .settings .«min_scrolled_size») d) in
+-- the space of one axis, by direction_enabled, max_size, min_scrolled_size, current_bar_use, available_outer and ui.clip_rect()
+unfoldable pub spaceBy : Bool → Float → Float → Float → Rangef → Rangef → AxisSpace
+spaceBy directionEnabled maxSize minScrolledSize barUse available clip =
+    let size = minus (outerSize available maxSize) barUse in
+    let innerSize = innerSizeOf directionEnabled size minScrolledSize in
     let inner = innerSide available innerSize in
     let contentClip = contentClipOf directionEnabled inner barUse clip in
     record {
@@ -83,6 +79,17 @@ spaceOf f s d e =
       «clip_min» = contentClip .min;
       «clip_max» = contentClip .max;
     }
+
+-- the space of axis d
+unfoldable pub spaceOf : Frame → State → ℕ → ℕ → AxisSpace
+spaceOf f s d e =
+    spaceBy
+    (flag (f .settings .«direction_enabled») d)
+    (num (f .settings .«max_size») d)
+    (num (f .settings .«min_scrolled_size») d)
+    (currentBarUseOf f s e)
+    (sideOf (f .host .available) d)
+    (sideOf (f .host .clip) d)
 
 -- inner_rect, of both axes' spaces
 unfoldable pub innerRect : AxisSpace → AxisSpace → Rect

@@ -8,6 +8,8 @@ use crate::frame::MaybeScrollTarget;
 use crate::frame::ScrollAnimation;
 use crate::frame::ScrollTarget;
 use crate::frame::TargetRequest;
+use crate::pair::flag;
+use crate::pair::num;
 use crate::prepared::AxisMotion;
 use crate::prepared::AxisSpace;
 use crate::state::MaybeTarget;
@@ -48,38 +50,34 @@ pub fn adjust_axis(frame: Frame, d: usize, space: AxisSpace, motion: AxisMotion)
     requires { ⌜ d < 2 ⌝ }
     ensures { λ r. ⌜ r ≡ Spec.adjustedOf frame d space motion ⌝ }
 {
-    let settings = frame.settings;
-    let enabled = settings.direction_enabled[d];
-    let asked = ask_axis(frame, d, space, motion.offset);
-    adjust_by(motion, asked, enabled, settings.animated, frame.host.time)
-}
-
-// What the content asks for on axis d, seen from the offset that `begin` left.
-fn ask_axis(frame: Frame, d: usize, space: AxisSpace, offset: f32) -> AskedDelta
-    requires { ⌜ d < 2 ⌝ }
-    ensures { λ r. ⌜ r ≡ Spec.askedAt frame d space offset ⌝ }
-{
-    let content = frame.content;
-    let request = content.targets[d];
-    let scroll_delta = content.scroll_delta[d];
-    let scroll_animation = content.animation;
-    let view = view_of(frame, d, space);
-    ask(request, scroll_delta, scroll_animation, view, offset)
-}
-
-// A target's range is in the ui's coordinates, as the clip's side is.
-fn view_of(frame: Frame, d: usize, space: AxisSpace) -> AxisView
-    requires { ⌜ d < 2 ⌝ }
-    ensures { λ r. ⌜ r ≡ Spec.viewOf frame d space ⌝ }
-{
-    let content = frame.content;
-    let style = frame.style;
-    AxisView {
-        min: content.min[d],
+    let directions = frame.settings.direction_enabled;
+    let targets = frame.content.targets;
+    let scroll_delta = frame.content.scroll_delta;
+    let content_min = frame.content.min;
+    let spacing = frame.style.item_spacing;
+    let request = targets[d];
+    // A target's range is in the ui's coordinates, as the clip's side is.
+    let view = AxisView {
+        min: num(content_min, d),
         clip_start: space.clip_min,
         clip_end: space.clip_max,
-        spacing: style.item_spacing[d],
-    }
+        spacing: num(spacing, d),
+    };
+    // Seen from the offset that `begin` left.
+    let asked = ask(
+        request,
+        num(scroll_delta, d),
+        frame.content.animation,
+        view,
+        motion.offset,
+    );
+    adjust_by(
+        motion,
+        asked,
+        flag(directions, d),
+        frame.settings.animated,
+        frame.host.time,
+    )
 }
 
 // A scroll delta points against the offset, so it is negated; a target adds to it, and its animation counts.

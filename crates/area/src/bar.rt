@@ -11,6 +11,7 @@ use crate::handle::calculate_handle;
 use crate::handle::handle_rect_of;
 use crate::handle::show_factor_of;
 use crate::handle::track_of;
+use crate::pair::num;
 use crate::prepared::AxisMotion;
 use crate::press::press_axis;
 use crate::state::MaybeRect;
@@ -77,32 +78,6 @@ fn show_bar(
     }
 }
 
-// A bar with factor 0 moves nothing; a press stored on it stays stored.
-fn turn_bar(
-    m: AxisMotion,
-    t: Track,
-    show_factor: f32,
-    rubber_banding: bool,
-    stored: StartOffset,
-    response: BarResponse,
-    d: usize,
-) -> Barred
-    ensures { λ r. ⌜ r ≡ Spec.turnBar m t «show_factor» «rubber_banding» stored response d ⌝ }
-{
-    if show_factor == 0.0 {
-        return Barred {
-            motion: m,
-            press: stored,
-            scroll_bar_interaction: false,
-            handle: HandleRect {
-                rect: MaybeRect::Nothing,
-            },
-            is_press_blocked: false,
-        };
-    }
-    show_bar(m, t, rubber_banding, stored, response, d)
-}
-
 // The bar of axis d; e is the other axis.
 pub fn bar_axis(
     f: Frame,
@@ -117,11 +92,23 @@ pub fn bar_axis(
     requires { ⌜ d < 2 ⌝ }
     ensures { λ r. ⌜ r ≡ Spec.barOf f d e space «show_scroll» «rubber_banding» stored m ⌝ }
 {
-    let host = f.host;
-    let bar_factor = host.bar_factors[d];
-    let opening_factor = host.opening_factors[d];
-    let response = host.bars[d];
-    let show_factor = show_factor_of(show_scroll, bar_factor, opening_factor);
+    let bar_factors = f.host.bar_factors;
+    let opening_factors = f.host.opening_factors;
+    let bars = f.host.bars;
+    let response = bars[d];
+    let show_factor = show_factor_of(show_scroll, num(bar_factors, d), num(opening_factors, d));
+    // A bar with factor 0 moves nothing; a press stored on it stays stored.
+    if show_factor == 0.0 {
+        return Barred {
+            motion: m,
+            press: stored,
+            scroll_bar_interaction: false,
+            handle: HandleRect {
+                rect: MaybeRect::Nothing,
+            },
+            is_press_blocked: false,
+        };
+    }
     let t = track_of(f, d, e, space, show_factor);
-    turn_bar(m, t, show_factor, rubber_banding, stored, response, d)
+    show_bar(m, t, rubber_banding, stored, response, d)
 }

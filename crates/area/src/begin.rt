@@ -10,15 +10,16 @@ use crate::follow::follow;
 use crate::frame::DragScroll;
 use crate::frame::Frame;
 use crate::frame::Host;
+use crate::frame::Settings;
 use crate::geometry::is_rect_stored;
 use crate::geometry::rect_contains_pointer;
+use crate::pair::flag;
+use crate::pair::num;
 use crate::prepared::AxisBegun;
-use crate::prepared::AxisSpace;
 use crate::prepared::Prepared;
 use crate::space::inner_rect;
 use crate::space::space_of;
 use crate::state::State;
-use axis::AxisPhysics;
 use axis::WheelSource;
 use numbers::Pos2;
 use numbers::Rect;
@@ -29,62 +30,9 @@ pub fn begin(frame: Frame, state: State) -> Prepared
 {
     let x_space = space_of(frame, state, 0, 1);
     let y_space = space_of(frame, state, 1, 0);
-    prepare(frame, state, x_space, y_space)
-}
-
-// Where `begin` has the content seen, and what the frame puts out; `end` may shrink it.
-pub fn inner_rect_of(prepared: Prepared) -> Rect
-    ensures { λ r. ⌜ r ≡ Spec.innerRectOf prepared ⌝ }
-{
-    inner_rect(prepared.x_space, prepared.y_space)
-}
-
-// What part of the content is seen, as the content is told: before this frame's drag or step.
-pub fn viewport_of(frame: Frame, state: State, prepared: Prepared) -> Rect
-    ensures { λ r. ⌜ r ≡ Spec.viewportOf frame state prepared ⌝ }
-{
-    let x = open_motion(frame.settings, state, 0);
-    let y = open_motion(frame.settings, state, 1);
-    let min = Pos2 {
-        x: 0.0 + x.offset,
-        y: 0.0 + y.offset,
-    };
-    let inner_size = [prepared.x_space.inner_size, prepared.y_space.inner_size];
-    Rect::from_min_size(min, inner_size)
-}
-
-// After a pause nothing leaps: a longer time since the last frame counts as 0.1.
-pub fn dt_of(stable_dt: f32) -> f32
-    ensures { λ r. ⌜ r ≡ Spec.dtOf «stable_dt» ⌝ }
-{
-    numbers::min(stable_dt, 0.1)
-}
-
-// The physics of axis d with the bounds that the last frame left.
-pub fn last_physics_of(frame: Frame, state: State, d: usize, inner_size: f32) -> AxisPhysics
-    requires { ⌜ d < 2 ⌝ }
-    ensures { λ r. ⌜ r ≡ Spec.lastPhysicsOf frame state d «inner_size» ⌝ }
-{
-    let settings = frame.settings;
-    let style = frame.style;
-    let direction_enabled = settings.direction_enabled[d];
-    let content_is_too_large = state.content_is_too_large[d];
-    let max_offset = state.max_offset[d];
-    physics_of(
-        style.kinetic,
-        direction_enabled,
-        content_is_too_large,
-        max_offset,
-        inner_size,
-    )
-}
-
-// Neither axis looks at how the other moves.
-fn prepare(frame: Frame, state: State, x_space: AxisSpace, y_space: AxisSpace) -> Prepared
-    ensures { λ r. ⌜ r ≡ Spec.preparedOf frame state «x_space» «y_space» ⌝ }
-{
     let has_background_drag = has_background_drag(frame, state);
     let hold = hold_overscroll(frame.host, inner_rect(x_space, y_space));
+    // Neither axis looks at how the other moves.
     let x = begin_axis(
         frame,
         state,
@@ -110,6 +58,27 @@ fn prepare(frame: Frame, state: State, x_space: AxisSpace, y_space: AxisSpace) -
     }
 }
 
+// What part of the content is seen, as the content is told: before this frame's drag or step.
+pub fn viewport_of(frame: Frame, state: State, prepared: Prepared) -> Rect
+    ensures { λ r. ⌜ r ≡ Spec.viewportOf frame state prepared ⌝ }
+{
+    let x = open_motion(frame.settings, state, 0);
+    let y = open_motion(frame.settings, state, 1);
+    let min = Pos2 {
+        x: 0.0 + x.offset,
+        y: 0.0 + y.offset,
+    };
+    let inner_size = [prepared.x_space.inner_size, prepared.y_space.inner_size];
+    Rect::from_min_size(min, inner_size)
+}
+
+// After a pause nothing leaps: a longer time since the last frame counts as 0.1.
+pub fn dt_of(stable_dt: f32) -> f32
+    ensures { λ r. ⌜ r ≡ Spec.dtOf «stable_dt» ⌝ }
+{
+    numbers::min(stable_dt, 0.1)
+}
+
 // A target moves its axis after the hand or the step has.
 fn begin_axis(
     frame: Frame,
@@ -122,48 +91,59 @@ fn begin_axis(
     requires { ⌜ d < 2 ⌝ }
     ensures { λ r. ⌜ r ≡ Spec.axisBegunOf frame state d «inner_size» «background_drag» hold ⌝ }
 {
-    let host = frame.host;
+    let directions = frame.settings.direction_enabled;
+    let deltas = frame.host.pointer_delta;
+    let velocities = frame.host.pointer_velocity;
+    let too_large = state.content_is_too_large;
+    let max_offsets = state.max_offset;
     let motion = open_motion(frame.settings, state, d);
-    let physics = last_physics_of(frame, state, d, inner_size);
-    let input = input_of(frame, d, background_drag, hold);
-    let driven = drive(motion, physics, input);
-    follow(driven, host.time, dt_of(host.stable_dt))
-}
-
-// A hand on the background is no hand where there is no response to it.
-fn input_of(frame: Frame, d: usize, background_drag: bool, hold: bool) -> AxisInput
-    requires { ⌜ d < 2 ⌝ }
-    ensures { λ r. ⌜ r ≡ Spec.inputOf frame d «background_drag» hold ⌝ }
-{
-    let settings = frame.settings;
-    let host = frame.host;
-    AxisInput {
-        direction_enabled: settings.direction_enabled[d],
-        dragged: background_drag & host.dragged,
-        drag_stopped: background_drag & host.drag_stopped,
-        pointer_delta: host.pointer_delta[d],
-        pointer_velocity: host.pointer_velocity[d],
-        dt: dt_of(host.stable_dt),
+    let direction_enabled = flag(directions, d);
+    let pointer_delta = num(deltas, d);
+    let pointer_velocity = num(velocities, d);
+    let content_is_too_large = flag(too_large, d);
+    let max_offset = num(max_offsets, d);
+    let dt = dt_of(frame.host.stable_dt);
+    // The bounds are those that the last frame left.
+    let physics = physics_of(
+        frame.style.kinetic,
+        direction_enabled,
+        content_is_too_large,
+        max_offset,
+        inner_size,
+    );
+    // A hand on the background is no hand where there is no response to it.
+    let input = AxisInput {
+        direction_enabled,
+        dragged: background_drag & frame.host.dragged,
+        drag_stopped: background_drag & frame.host.drag_stopped,
+        pointer_delta,
+        pointer_velocity,
+        dt,
         hold_overscroll: hold,
-    }
+    };
+    let driven = drive(motion, physics, input);
+    follow(driven, frame.host.time, dt)
 }
 
 // Whether content can be dragged at all; in the first frame there is no rectangle yet to take hold of.
 fn has_background_drag(frame: Frame, state: State) -> bool
     ensures { λ r. ⌜ r ≡ Spec.hasBackgroundDrag frame state ⌝ }
 {
-    let settings = frame.settings;
-    let host = frame.host;
-    let drag = settings.drag;
+    let too_large = state.content_is_too_large;
     let rect = state.interact_rect;
-    let is_any_too_large = state.content_is_too_large[0] | state.content_is_too_large[1];
-    drag_enabled(drag, host.touch) & host.enabled & is_any_too_large & is_rect_stored(rect)
+    let is_any_too_large = flag(too_large, 0) | flag(too_large, 1);
+    let is_stored = is_rect_stored(rect);
+    drag_enabled(frame.settings, frame.host.touch)
+        & frame.host.enabled
+        & is_any_too_large
+        & is_stored
 }
 
 // OnTouch asks whether there is a touch screen.
-fn drag_enabled(drag: DragScroll, touch: bool) -> bool
-    ensures { λ r. ⌜ r ≡ Spec.dragEnabled drag touch ⌝ }
+fn drag_enabled(settings: Settings, touch: bool) -> bool
+    ensures { λ r. ⌜ r ≡ Spec.dragEnabled (settings .drag) touch ⌝ }
 {
+    let drag = settings.drag;
     match drag {
         DragScroll::Never => false,
         DragScroll::OnTouch => touch,
@@ -176,8 +156,7 @@ fn hold_overscroll(host: Host, inner_rect: Rect) -> bool
     ensures { λ r. ⌜ r ≡ Spec.holdOverscroll host «inner_rect» ⌝ }
 {
     let source = host.source;
-    let pointer = host.pointer;
-    fingers_on_trackpad(source) & rect_contains_pointer(host.clip, pointer, inner_rect)
+    fingers_on_trackpad(source) & rect_contains_pointer(host, inner_rect)
 }
 
 // Momentum comes after the fingers.

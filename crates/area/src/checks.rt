@@ -73,14 +73,8 @@ fn shows(s: &[u8], n: u32, k: u32) -> bool
     ensures { λ r. ⌜ r ≡ Spec.showsNo k (now (s .entry)) n ⌝ }
 {
     let r = row_of(n);
-    is_heeded(s, r) & is_shown(s, n, r, k)
-}
-
-// Outside an option, or in one that is on.
-fn is_heeded(s: &[u8], r: Row) -> bool
-    ensures { λ b. ⌜ b ≡ Spec.isHeeded (now (s .entry)) r ⌝ }
-{
-    (r.option == 0) | (word_at(s, r.option) == 1)
+    let heeded = (r.option == 0) | (word_at(s, r.option) == 1);
+    heeded & is_shown(s, n, r, k)
 }
 
 fn is_shown(s: &[u8], n: u32, r: Row, k: u32) -> bool

@@ -196,22 +196,17 @@ fn rangef_at(s: &[u8], n: u32) -> Rangef
     }
 }
 
-fn maybe_number_at(s: &[u8], n: u32) -> MaybeNumber
-    requires { ⌜ n ≤ 200 ⌝ }
-    ensures { λ r. ⌜ r ≡ Spec.maybeNumberNo (now (s .entry)) n ⌝ }
-{
-    if flag_at(s, n) {
-        return MaybeNumber::Some(number_at(s, n + 1));
-    }
-    MaybeNumber::Nothing
-}
-
 fn given_offset_at(s: &[u8], n: u32) -> GivenOffset
     requires { ⌜ n ≤ 200 ⌝ }
     ensures { λ r. ⌜ r ≡ Spec.givenOffsetNo (now (s .entry)) n ⌝ }
 {
+    if flag_at(s, n) {
+        return GivenOffset {
+            number: MaybeNumber::Some(number_at(s, n + 1)),
+        };
+    }
     GivenOffset {
-        number: maybe_number_at(s, n),
+        number: MaybeNumber::Nothing,
     }
 }
 
@@ -267,22 +262,17 @@ fn scroll_target_at(s: &[u8], n: u32) -> ScrollTarget
     }
 }
 
-fn maybe_scroll_target_at(s: &[u8], n: u32) -> MaybeScrollTarget
-    requires { ⌜ n ≤ 140 ⌝ }
-    ensures { λ r. ⌜ r ≡ Spec.maybeScrollTargetNo (now (s .entry)) n ⌝ }
-{
-    if flag_at(s, n) {
-        return MaybeScrollTarget::Some(scroll_target_at(s, n + 1));
-    }
-    MaybeScrollTarget::Nothing
-}
-
 fn target_request_at(s: &[u8], n: u32) -> TargetRequest
     requires { ⌜ n ≤ 140 ⌝ }
     ensures { λ r. ⌜ r ≡ Spec.targetRequestNo (now (s .entry)) n ⌝ }
 {
+    if flag_at(s, n) {
+        return TargetRequest {
+            target: MaybeScrollTarget::Some(scroll_target_at(s, n + 1)),
+        };
+    }
     TargetRequest {
-        target: maybe_scroll_target_at(s, n),
+        target: MaybeScrollTarget::Nothing,
     }
 }
 

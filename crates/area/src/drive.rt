@@ -5,6 +5,8 @@ ghost use Rattle.area.specs.Drive as Spec;
 use crate::frame::GivenOffset;
 use crate::frame::MaybeNumber;
 use crate::frame::Settings;
+use crate::pair::flag;
+use crate::pair::num;
 use crate::prepared::AxisBegun;
 use crate::prepared::AxisMotion;
 use crate::state::MaybeTarget;
@@ -29,14 +31,17 @@ pub fn open_motion(settings: Settings, state: State, d: usize) -> AxisMotion
     requires { ⌜ d < 2 ⌝ }
     ensures { λ r. ⌜ r ≡ Spec.openedOf settings state d ⌝ }
 {
-    let given = settings.offset[d];
-    let stored = state.offset[d];
-    let vel = state.vel[d];
-    let offset_target = state.offset_target[d];
-    let scroll_stuck_to_end = state.scroll_stuck_to_end[d];
-    let offset = given_offset_or(given, stored);
+    let targets = state.offset_target;
+    let offset_target = targets[d];
+    let offsets = state.offset;
+    let stored = num(offsets, d);
+    let velocities = state.vel;
+    let vel = num(velocities, d);
+    let stuck = state.scroll_stuck_to_end;
+    let scroll_stuck_to_end = flag(stuck, d);
+    let given = settings.offset;
     AxisMotion {
-        offset,
+        offset: given_offset_or(given[d], stored),
         vel,
         offset_target,
         scroll_stuck_to_end,

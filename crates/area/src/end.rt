@@ -12,6 +12,7 @@ use crate::extent::extent_of;
 use crate::frame::Frame;
 use crate::geometry::shows_bar;
 use crate::handle::BarSpace;
+use crate::pair::flag;
 use crate::prepared::AxisBegun;
 use crate::prepared::AxisSpace;
 use crate::prepared::Prepared;
@@ -117,18 +118,16 @@ fn end_axis(
     requires { ⌜ d < 2 ⌝ }
     ensures { λ r. ⌜ r ≡ Spec.axisEndedOf frame state d e space extents wheel begun ⌝ }
 {
-    let extent = extents.this;
-    let banding = begun.rubber_banding;
     let adjusted = adjust_axis(frame, d, space, begun.motion);
     let turned = turn_axis(
         frame,
         state,
         d,
         space,
-        extent,
+        extents.this,
         wheel,
         adjusted.motion,
-        banding,
+        begun.rubber_banding,
     );
     finish_axis(frame, state, d, e, extents, adjusted, turned)
 }
@@ -146,27 +145,35 @@ fn finish_axis(
     requires { ⌜ d < 2 ⌝ }
     ensures { λ r. ⌜ r ≡ Spec.finishedOf frame state d e extents adjusted turned ⌝ }
 {
-    let settings = frame.settings;
-    let sticks = settings.stick_to_end[d];
-    let enabled = settings.direction_enabled[d];
-    let visibility = settings.scroll_bar_visibility;
-    let stored = state.scroll_start_offset_from_top_left[d];
-    let extent = extents.this;
+    let stick_to_end = frame.settings.stick_to_end;
+    let enabled = frame.settings.direction_enabled;
+    let presses = state.scroll_start_offset_from_top_left;
+    let stored = presses[d];
+    let sticks = flag(stick_to_end, d);
     let explicit = adjusted.had_explicit_scroll_adjustment;
-    let banding = turned.rubber_banding;
-    let show = shows_bar(visibility, extent.content_is_too_large, enabled);
-    let stuck = stick_axis(turned.motion, sticks, explicit, extent.max_offset);
+    let show = shows_bar(
+        frame.settings,
+        extents.this.content_is_too_large,
+        flag(enabled, d),
+    );
+    let stuck = stick_axis(turned.motion, sticks, explicit, extents.this.max_offset);
     let barred = bar_axis(
         frame,
         d,
         e,
         bar_space_of(extents),
         show,
-        banding,
+        turned.rubber_banding,
         stored,
         stuck,
     );
-    let settled = settle_axis(barred.motion, banding, extent.max_offset, sticks, explicit);
+    let settled = settle_axis(
+        barred.motion,
+        turned.rubber_banding,
+        extents.this.max_offset,
+        sticks,
+        explicit,
+    );
     ended_of(explicit, turned, show, barred, settled)
 }
 
@@ -201,18 +208,16 @@ fn ended_of(
 fn bar_space_of(extents: Extents) -> BarSpace
     ensures { λ r. ⌜ r ≡ Spec.barSpaceOf extents ⌝ }
 {
-    let extent = extents.this;
-    let other = extents.other;
     BarSpace {
-        content_size: extent.content_size,
+        content_size: extents.this.content_size,
         inner: Rangef {
-            min: extent.min,
-            max: extent.max,
+            min: extents.this.min,
+            max: extents.this.max,
         },
-        inner_size: extent.size,
-        max_offset: extent.max_offset,
-        cross_inner_max: other.max,
-        cross_outer_max: other.outer_max,
+        inner_size: extents.this.size,
+        max_offset: extents.this.max_offset,
+        cross_inner_max: extents.other.max,
+        cross_outer_max: extents.other.outer_max,
     }
 }
 

@@ -4,6 +4,8 @@ ghost use Prim.Native.Nat.{_<_};
 ghost use Rattle.area.specs.Extent as Spec;
 use crate::frame::Frame;
 use crate::geometry::pick;
+use crate::pair::flag;
+use crate::pair::num;
 use crate::prepared::AxisSpace;
 use numbers::ceil;
 use numbers::max;
@@ -26,17 +28,15 @@ pub fn extent_of(frame: Frame, d: usize, space: AxisSpace) -> AxisExtent
     requires { ⌜ d < 2 ⌝ }
     ensures { λ r. ⌜ r ≡ Spec.extentOf frame d space ⌝ }
 {
-    let settings = frame.settings;
-    let content = frame.content;
-    let enabled = settings.direction_enabled[d];
-    let auto_shrink = settings.auto_shrink[d];
-    let content_size = content.size[d];
+    let enabled = frame.settings.direction_enabled;
+    let auto_shrink = frame.settings.auto_shrink;
+    let content_size = frame.content.size;
     extent_by(
-        enabled,
-        auto_shrink,
+        flag(enabled, d),
+        flag(auto_shrink, d),
         frame.style.floating,
         space,
-        content_size,
+        num(content_size, d),
     )
 }
 

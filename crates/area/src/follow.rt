@@ -32,13 +32,7 @@ fn approach(begun: AxisBegun, t: ScrollingToTarget, time: f64, dt: f32) -> AxisB
         return arrive(begun, t);
     }
     let factor = interpolation_factor(t.start, t.end, time, dt);
-    move_towards(begun, t, factor)
-}
-
-// The target stays stored until its time is over.
-fn move_towards(begun: AxisBegun, t: ScrollingToTarget, factor: f32) -> AxisBegun
-    ensures { λ r. ⌜ r ≡ Spec.movedTowards begun t factor ⌝ }
-{
+    // The target stays stored until its time is over.
     if factor < 1.0 {
         let offset = lerp(begun.motion.offset, t.target_offset, factor);
         return AxisBegun {

@@ -1,8 +1,10 @@
 // What both halves of a frame ask of points, rectangles and options.
 ghost use mathlib.Core.Path.{_≡_};
 ghost use Rattle.area.specs.Geometry as Spec;
+use crate::frame::Host;
 use crate::frame::MaybePos2;
 use crate::frame::ScrollBarVisibility;
+use crate::frame::Settings;
 use crate::state::MaybeRect;
 use crate::state::MaybeTarget;
 use crate::state::OffsetTarget;
@@ -30,9 +32,10 @@ pub fn pick(test: bool, a: f32, b: f32) -> f32
 }
 
 // Whether a bar is to show, where `needed` says whether the content asks for it.
-pub fn shows_bar(visibility: ScrollBarVisibility, needed: bool, enabled: bool) -> bool
-    ensures { λ r. ⌜ r ≡ Spec.showsBar visibility needed enabled ⌝ }
+pub fn shows_bar(settings: Settings, needed: bool, enabled: bool) -> bool
+    ensures { λ r. ⌜ r ≡ Spec.showsBar (settings .«scroll_bar_visibility») needed enabled ⌝ }
 {
+    let visibility = settings.scroll_bar_visibility;
     match visibility {
         ScrollBarVisibility::AlwaysHidden => false,
         ScrollBarVisibility::VisibleWhenNeeded => needed,
@@ -41,12 +44,13 @@ pub fn shows_bar(visibility: ScrollBarVisibility, needed: bool, enabled: bool) -
 }
 
 // A rectangle holds the pointer if its intersection with the clip does.
-pub fn rect_contains_pointer(clip: Rect, pointer: MaybePos2, rect: Rect) -> bool
-    ensures { λ r. ⌜ r ≡ Spec.rectContainsPointer clip pointer rect ⌝ }
+pub fn rect_contains_pointer(host: Host, rect: Rect) -> bool
+    ensures { λ r. ⌜ r ≡ Spec.rectContainsPointer (host .clip) (host .pointer) rect ⌝ }
 {
+    let pointer = host.pointer;
     match pointer {
         MaybePos2::Nothing => false,
-        MaybePos2::Some(p) => clip.intersect(rect).contains(p),
+        MaybePos2::Some(p) => host.clip.intersect(rect).contains(p),
     }
 }
 

@@ -3,9 +3,11 @@ ghost use mathlib.Core.Path.{_≡_};
 ghost use Prim.Native.Nat.{_<_};
 ghost use Rattle.area.specs.Handle as Spec;
 use crate::frame::Frame;
+use crate::frame::Settings;
 use crate::frame::Style;
 use crate::geometry::along;
 use crate::geometry::pick;
+use crate::pair::num;
 use crate::state::MaybeRect;
 use numbers::Pos2;
 use numbers::Rangef;
@@ -82,9 +84,10 @@ fn cross_of(
 }
 
 // The bar's side along the axis: the inner rectangle's, unless the host gave one.
-fn bar_range_of(scroll_bar_rect: MaybeRect, inner: Rangef, d: usize) -> Rangef
-    ensures { λ r. ⌜ r ≡ Spec.barRangeOf «scroll_bar_rect» inner d ⌝ }
+fn bar_range_of(settings: Settings, inner: Rangef, d: usize) -> Rangef
+    ensures { λ r. ⌜ r ≡ Spec.barRangeOf (settings .«scroll_bar_rect») inner d ⌝ }
 {
+    let scroll_bar_rect = settings.scroll_bar_rect;
     match scroll_bar_rect {
         MaybeRect::Nothing => inner,
         MaybeRect::Some(rect) => Rangef {
@@ -99,28 +102,28 @@ pub fn track_of(f: Frame, d: usize, e: usize, space: BarSpace, show_factor: f32)
     requires { ⌜ d < 2 ⌝ }
     ensures { λ r. ⌜ r ≡ Spec.trackOf f d e space «show_factor» ⌝ }
 {
-    let style = f.style;
-    let settings = f.settings;
-    let host = f.host;
-    let hover_factor = host.hover_factors[d];
-    let scroll_bar_rect = settings.scroll_bar_rect;
-    let outer_margin = show_factor * style.bar_outer_margin;
-    let max_cross = max_cross_of(space.cross_outer_max, along(host.clip.max, e), outer_margin);
+    let hover_factors = f.host.hover_factors;
+    let outer_margin = show_factor * f.style.bar_outer_margin;
+    let max_cross = max_cross_of(
+        space.cross_outer_max,
+        along(f.host.clip.max, e),
+        outer_margin,
+    );
     let cross = cross_of(
-        style,
+        f.style,
         show_factor,
-        hover_factor,
+        num(hover_factors, d),
         max_cross,
         space.cross_inner_max,
     );
-    let bar = bar_range_of(scroll_bar_rect, space.inner, d);
+    let bar = bar_range_of(f.settings, space.inner, d);
     Track {
         bar,
         cross,
         content_size: space.content_size,
         inner_size: space.inner_size,
         max_offset: space.max_offset,
-        handle_min_length: style.handle_min_length,
+        handle_min_length: f.style.handle_min_length,
     }
 }
 

@@ -16,6 +16,7 @@ mod handle;
 mod layout;
 mod lent;
 mod outcome;
+mod pair;
 mod prepared;
 mod press;
 mod put_out;

@@ -68,9 +68,7 @@ fn no_rect() -> Rect
 pub fn is_answer_finite(answer: Answer) -> bool
     ensures { λ r. ⌜ r ≡ Spec.isAnswerFinite answer ⌝ }
 {
-    let state = answer.state;
-    let outcome = answer.outcome;
-    is_state_finite(state) & is_outcome_finite(outcome)
+    is_state_finite(answer.state) & is_outcome_finite(answer.outcome)
 }
 
 fn is_outcome_finite(outcome: Outcome) -> bool

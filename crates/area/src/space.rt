@@ -5,6 +5,8 @@ ghost use Rattle.area.specs.Space as Spec;
 use crate::frame::Frame;
 use crate::geometry::along;
 use crate::geometry::shows_bar;
+use crate::pair::flag;
+use crate::pair::num;
 use crate::prepared::AxisSpace;
 use crate::state::State;
 use numbers::Pos2;
@@ -17,14 +19,46 @@ pub fn space_of(frame: Frame, state: State, d: usize, e: usize) -> AxisSpace
     requires { ⌜ (d < 2) × (e < 2) ⌝ }
     ensures { λ r. ⌜ r ≡ Spec.spaceOf frame state d e ⌝ }
 {
-    let settings = frame.settings;
-    let host = frame.host;
-    let direction_enabled = settings.direction_enabled[d];
-    let max_size = settings.max_size[d];
-    let min_scrolled_size = settings.min_scrolled_size[d];
-    let bar_use = current_bar_use(frame, state, e);
-    let available = side_of(host.available, d);
-    let clip = side_of(host.clip, d);
+    let directions = frame.settings.direction_enabled;
+    let max_sizes = frame.settings.max_size;
+    let min_sizes = frame.settings.min_scrolled_size;
+    let factors = frame.host.bar_factors;
+    let direction_enabled = flag(directions, d);
+    let max_size = num(max_sizes, d);
+    let min_scrolled_size = num(min_sizes, d);
+    let show_bar_factor = num(factors, e);
+    let available = side_of(frame.host.available, d);
+    let clip = side_of(frame.host.clip, d);
+    // As far as the last frame tells whether the bar shows.
+    let shown = state.show_scroll;
+    let show_bar = shows_bar(frame.settings, flag(shown, e), flag(directions, e));
+    let bar_use = bar_use_of(
+        frame.style.floating,
+        frame.style.allocated_width,
+        show_bar,
+        show_bar_factor,
+    );
+    space_by(
+        direction_enabled,
+        max_size,
+        min_scrolled_size,
+        bar_use,
+        available,
+        clip,
+    )
+}
+
+// What the bar leaves of the available side, and what of that the content is clipped to.
+fn space_by(
+    direction_enabled: bool,
+    max_size: f32,
+    min_scrolled_size: f32,
+    bar_use: f32,
+    available: Rangef,
+    clip: Rangef,
+) -> AxisSpace
+    ensures { λ r. ⌜ r ≡ Spec.spaceBy «direction_enabled» «max_size» «min_scrolled_size» «bar_use» available clip ⌝ }
+{
     let outer_size = numbers::min(available.max - available.min, max_size);
     let inner_size = inner_size_of(direction_enabled, outer_size - bar_use, min_scrolled_size);
     let inner = Rangef {
@@ -50,28 +84,6 @@ pub fn inner_rect(x: AxisSpace, y: AxisSpace) -> Rect
         min: Pos2 { x: x.min, y: y.min },
         max: Pos2 { x: x.max, y: y.max },
     }
-}
-
-// What the bar of axis e takes, as far as the last frame tells whether it shows.
-fn current_bar_use(frame: Frame, state: State, e: usize) -> f32
-    requires { ⌜ e < 2 ⌝ }
-    ensures { λ r. ⌜ r ≡ Spec.currentBarUseOf frame state e ⌝ }
-{
-    let settings = frame.settings;
-    let style = frame.style;
-    let host = frame.host;
-    let visibility = settings.scroll_bar_visibility;
-    let show_bar = shows_bar(
-        visibility,
-        state.show_scroll[e],
-        settings.direction_enabled[e],
-    );
-    bar_use_of(
-        style.floating,
-        style.allocated_width,
-        show_bar,
-        host.bar_factors[e],
-    )
 }
 
 // A floating bar takes its width at once, a solid one little by little as it opens.

@@ -8,6 +8,8 @@ use crate::extent::AxisExtent;
 use crate::frame::Frame;
 use crate::geometry::pick;
 use crate::geometry::rect_contains_pointer;
+use crate::pair::flag;
+use crate::pair::num;
 use crate::prepared::AxisMotion;
 use crate::prepared::AxisSpace;
 use crate::state::MaybeTarget;
@@ -35,13 +37,11 @@ pub struct Turned {
 pub fn hear_wheel(frame: Frame, outer_rect: Rect, is_dragging_background: bool) -> WheelHeard
     ensures { λ r. ⌜ r ≡ Spec.heardOf frame «outer_rect» «is_dragging_background» ⌝ }
 {
-    let settings = frame.settings;
-    let host = frame.host;
-    let pointer = host.pointer;
-    let only = settings.direction_enabled[0] != settings.direction_enabled[1];
-    let over = rect_contains_pointer(host.clip, pointer, outer_rect);
+    let enabled = frame.settings.direction_enabled;
+    let only = flag(enabled, 0) != flag(enabled, 1);
+    let over = rect_contains_pointer(frame.host, outer_rect);
     WheelHeard {
-        heard: settings.mouse_wheel & host.enabled & (over | is_dragging_background),
+        heard: frame.settings.mouse_wheel & frame.host.enabled & (over | is_dragging_background),
         always_scroll_enabled_direction: frame.style.always_scroll_the_only_direction & only,
     }
 }
@@ -60,11 +60,20 @@ pub fn turn_axis(
     requires { ⌜ d < 2 ⌝ }
     ensures { λ r. ⌜ r ≡ Spec.turnedOf frame state d space extent wheel motion «rubber_banding» ⌝ }
 {
-    let settings = frame.settings;
-    let enabled = settings.direction_enabled[d];
-    let bounced = state.bounced_this_momentum[d];
+    let directions = frame.settings.direction_enabled;
+    let bounces = state.bounced_this_momentum;
+    let enabled = flag(directions, d);
+    let bounced = flag(bounces, d);
     if wheel.heard & enabled {
-        let physics = wheel_physics(frame, state, d, space, extent);
+        let too_large = state.content_is_too_large;
+        // We know this frame's bounds now; extent and rubber band stay those of `begin`.
+        let physics = physics_of(
+            frame.style.kinetic,
+            enabled,
+            flag(too_large, d),
+            extent.max_offset,
+            space.inner_size,
+        );
         let scroll = wheel_scroll(frame, d, wheel.always_scroll_enabled_direction);
         return turn_by(physics, scroll, motion, rubber_banding, bounced);
     }
@@ -76,46 +85,23 @@ pub fn turn_axis(
     }
 }
 
-// We know this frame's bounds now; extent and rubber band stay those of `begin`.
-fn wheel_physics(
-    frame: Frame,
-    state: State,
-    d: usize,
-    space: AxisSpace,
-    extent: AxisExtent,
-) -> AxisPhysics
-    requires { ⌜ d < 2 ⌝ }
-    ensures { λ r. ⌜ r ≡ Spec.wheelPhysicsOf frame state d space extent ⌝ }
-{
-    let settings = frame.settings;
-    let enabled = settings.direction_enabled[d];
-    let too_large = state.content_is_too_large[d];
-    physics_of(
-        frame.style.kinetic,
-        enabled,
-        too_large,
-        extent.max_offset,
-        space.inner_size,
-    )
-}
-
 // A wheel's delta points against the offset. With one direction only, either way of turning moves it, without shift.
 fn wheel_scroll(frame: Frame, d: usize, always_scroll_enabled_direction: bool) -> WheelScroll
     requires { ⌜ d < 2 ⌝ }
     ensures { λ r. ⌜ r ≡ Spec.wheelScrollOf frame d «always_scroll_enabled_direction» ⌝ }
 {
     let host = frame.host;
-    let settings = frame.settings;
-    let multiplier = settings.wheel_scroll_multiplier[d];
-    let own = host.smooth_scroll_delta[d];
-    let both = host.smooth_scroll_delta[0] + host.smooth_scroll_delta[1];
     let source = host.source;
-    let scroll_delta = pick(always_scroll_enabled_direction, both, own) * multiplier;
+    let delta = host.smooth_scroll_delta;
+    let multiplier = frame.settings.wheel_scroll_multiplier;
+    let both = num(delta, 0) + num(delta, 1);
+    let own = num(delta, d);
+    let scroll_delta = pick(always_scroll_enabled_direction, both, own) * num(multiplier, d);
     WheelScroll {
         delta: -scroll_delta,
         source,
         can_chain_to_parent: host.scrolling_ancestor,
-        dt: dt_of(host.stable_dt),
+        dt: dt_of(frame.host.stable_dt),
     }
 }
 

@@ -1,5 +1,5 @@
 use borrow.Author.Needs.{needs}
-use Rattle.area.specs.Begin.{beginOf}
+use Rattle.area.specs.Begin.{beginOf, preparedOf}
 use Rattle.area.proofs.begin.begin.Statement.{statement}
 use Rattle.area.proofs.begin.begin.Tie as tie
 
@@ -9,12 +9,34 @@ space-of-requires c κs = search needs
 space-of-requires-2 : tie.Need-space-of-requires-2
 space-of-requires-2 c κs = search needs
 
-prepare-requires : tie.Need-prepare-requires
-prepare-requires c κs = search needs
+has-background-drag-requires : tie.Need-has-background-drag-requires
+has-background-drag-requires c κs = search needs
+
+inner-rect-requires : tie.Need-inner-rect-requires
+inner-rect-requires c κs = search needs
+
+hold-overscroll-requires : tie.Need-hold-overscroll-requires
+hold-overscroll-requires c κs = search needs
+
+begin-axis-requires : tie.Need-begin-axis-requires
+begin-axis-requires c κs = search needs
+
+begin-axis-requires-2 : tie.Need-begin-axis-requires-2
+begin-axis-requires-2 c κs = search needs
 
 returns : tie.Need-returns
-unfolding beginOf
-returns c = rw (← c .before .before .space-of .ensures, ← c .before .space-of2 .ensures, ← c .prepare .ensures)
+unfolding beginOf preparedOf
+returns c = rw (← c .before .before .before .before .before .before .space-of .ensures, ← c .before .before .before .before .before .space-of2 .ensures, ← c .before .before .before .before .has-background-drag .ensures, ← c .before .before .before .inner-rect .ensures, ← c .before .before .hold-overscroll .ensures, ← c .before .begin-axis .ensures, ← c .begin-axis2 .ensures)
 
 pub begin-spec : {M : Type 1} → statement M
-begin-spec = tie.close (tie.spec space-of-requires space-of-requires-2 prepare-requires returns)
+begin-spec =
+    tie.close
+    (tie.spec
+    space-of-requires
+    space-of-requires-2
+    has-background-drag-requires
+    inner-rect-requires
+    hold-overscroll-requires
+    begin-axis-requires
+    begin-axis-requires-2
+    returns)

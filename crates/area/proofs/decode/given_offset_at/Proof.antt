@@ -1,14 +1,25 @@
 use borrow.Author.Needs.{needs}
-use Rattle.area.specs.Frame.{givenOffsetNo}
+use Rattle.area.specs.Frame.{givenOffsetNo, maybeNumberNo}
 use Rattle.area.proofs.decode.given_offset_at.Statement.{statement}
 use Rattle.area.proofs.decode.given_offset_at.Tie as tie
 
-maybe-number-at-requires : tie.Need-maybe-number-at-requires
-maybe-number-at-requires c κs = search needs
+flag-at-requires : tie.Need-flag-at-requires
+flag-at-requires c κs = search needs
+
+add-number-at : tie.Need-add-number-at
+add-number-at c = search needs
+
+number-at-requires : tie.Need-number-at-requires
+number-at-requires c κs = search needs
 
 returns : tie.Need-returns
-unfolding givenOffsetNo
-returns c = rw (← c .maybe-number-at .ensures)
+unfolding givenOffsetNo maybeNumberNo
+returns c = rw (← c .before .before .flag-at .ensures, c .before .if1 .taken, ← c .number-at .ensures)
+
+returns-2 : tie.Need-returns-2
+unfolding givenOffsetNo maybeNumberNo
+returns-2 c = rw (← c .before .flag-at .ensures, c .if1 .left)
 
 pub given-offset-at-spec : {M : Type 1} → statement M
-given-offset-at-spec = tie.close (tie.spec maybe-number-at-requires returns)
+given-offset-at-spec =
+    tie.close (tie.spec flag-at-requires add-number-at number-at-requires returns returns-2)

@@ -3,52 +3,44 @@ use Rattle.area.specs.Drive.{openedOf}
 use Rattle.area.proofs.drive.open_motion.Statement.{statement}
 use Rattle.area.proofs.drive.open_motion.Tie as tie
 
-mul-given : tie.Need-mul-given
-mul-given c = search needs
-
-element-copy-out-given : tie.Need-element-copy-out-given
-element-copy-out-given c = search needs
-
-mul-stored : tie.Need-mul-stored
-mul-stored c = search needs
-
-element-copy-out-stored : tie.Need-element-copy-out-stored
-element-copy-out-stored c = search needs
-
-mul-vel : tie.Need-mul-vel
-mul-vel c = search needs
-
-element-copy-out-vel : tie.Need-element-copy-out-vel
-element-copy-out-vel c = search needs
-
 mul-offset-target : tie.Need-mul-offset-target
 mul-offset-target c = search needs
 
-element-copy-out-offset-target : tie.Need-element-copy-out-offset-target
-element-copy-out-offset-target c = search needs
+array-copy-out-offset-target : tie.Need-array-copy-out-offset-target
+array-copy-out-offset-target c = search needs
 
-element-copy-out-scroll-stuck-to-end : tie.Need-element-copy-out-scroll-stuck-to-end
-element-copy-out-scroll-stuck-to-end c = search needs
+num-requires : tie.Need-num-requires
+num-requires c κs = search needs
+
+num-requires-2 : tie.Need-num-requires-2
+num-requires-2 c κs = search needs
+
+flag-requires : tie.Need-flag-requires
+flag-requires c κs = search needs
+
+mul-given-offset-or : tie.Need-mul-given-offset-or
+mul-given-offset-or c = search needs
+
+array-copy-out-given-offset-or : tie.Need-array-copy-out-given-offset-or
+array-copy-out-given-offset-or c = search needs
 
 given-offset-or-requires : tie.Need-given-offset-or-requires
 given-offset-or-requires c κs = search needs
 
 returns : tie.Need-returns
 unfolding openedOf
-returns c = rw (← c .given-offset-or .ensures)
+returns c = rw (← c .before .before .before .before .before .before .before .num .ensures, ← c .before .before .before .before .before .num2 .ensures, ← c .before .before .before .flag .ensures, ← c .given-offset-or .ensures)
 
 pub open-motion-spec : {M : Type 1} → statement M
 open-motion-spec =
     tie.close
     (tie.spec
-    mul-given
-    element-copy-out-given
-    mul-stored
-    element-copy-out-stored
-    mul-vel
-    element-copy-out-vel
     mul-offset-target
-    element-copy-out-offset-target
-    element-copy-out-scroll-stuck-to-end
+    array-copy-out-offset-target
+    num-requires
+    num-requires-2
+    flag-requires
+    mul-given-offset-or
+    array-copy-out-given-offset-or
     given-offset-or-requires
     returns)

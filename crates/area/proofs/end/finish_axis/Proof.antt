@@ -3,17 +3,17 @@ use Rattle.area.specs.End.{finishedOf}
 use Rattle.area.proofs.end.finish_axis.Statement.{statement}
 use Rattle.area.proofs.end.finish_axis.Tie as tie
 
-element-copy-out-sticks : tie.Need-element-copy-out-sticks
-element-copy-out-sticks c = search needs
-
-element-copy-out-enabled : tie.Need-element-copy-out-enabled
-element-copy-out-enabled c = search needs
-
 mul-stored : tie.Need-mul-stored
 mul-stored c = search needs
 
-element-copy-out-stored : tie.Need-element-copy-out-stored
-element-copy-out-stored c = search needs
+array-copy-out-stored : tie.Need-array-copy-out-stored
+array-copy-out-stored c = search needs
+
+flag-requires : tie.Need-flag-requires
+flag-requires c κs = search needs
+
+flag-requires-2 : tie.Need-flag-requires-2
+flag-requires-2 c κs = search needs
 
 shows-bar-requires : tie.Need-shows-bar-requires
 shows-bar-requires c κs = search needs
@@ -35,16 +35,16 @@ ended-of-requires c κs = search needs
 
 returns : tie.Need-returns
 unfolding finishedOf
-returns c = rw (← c .before .before .before .before .before .shows-bar .ensures, ← c .before .before .before .before .stick-axis .ensures, ← c .before .before .before .bar-space-of .ensures, ← c .before .before .bar-axis .ensures, ← c .before .settle-axis .ensures, ← c .ended-of .ensures)
+returns c = rw (← c .before .before .before .before .before .before .before .flag .ensures, ← c .before .before .before .before .before .before .flag2 .ensures, ← c .before .before .before .before .before .shows-bar .ensures, ← c .before .before .before .before .stick-axis .ensures, ← c .before .before .before .bar-space-of .ensures, ← c .before .before .bar-axis .ensures, ← c .before .settle-axis .ensures, ← c .ended-of .ensures)
 
 pub finish-axis-spec : {M : Type 1} → statement M
 finish-axis-spec =
     tie.close
     (tie.spec
-    element-copy-out-sticks
-    element-copy-out-enabled
     mul-stored
-    element-copy-out-stored
+    array-copy-out-stored
+    flag-requires
+    flag-requires-2
     shows-bar-requires
     stick-axis-requires
     bar-space-of-requires

@@ -3,32 +3,22 @@ use Rattle.area.specs.Extent.{extentOf}
 use Rattle.area.proofs.extent.extent_of.Statement.{statement}
 use Rattle.area.proofs.extent.extent_of.Tie as tie
 
-element-copy-out-enabled : tie.Need-element-copy-out-enabled
-element-copy-out-enabled c = search needs
+flag-requires : tie.Need-flag-requires
+flag-requires c κs = search needs
 
-element-copy-out-auto-shrink : tie.Need-element-copy-out-auto-shrink
-element-copy-out-auto-shrink c = search needs
+flag-requires-2 : tie.Need-flag-requires-2
+flag-requires-2 c κs = search needs
 
-mul-content-size : tie.Need-mul-content-size
-mul-content-size c = search needs
-
-element-copy-out-content-size : tie.Need-element-copy-out-content-size
-element-copy-out-content-size c = search needs
+num-requires : tie.Need-num-requires
+num-requires c κs = search needs
 
 extent-by-requires : tie.Need-extent-by-requires
 extent-by-requires c κs = search needs
 
 returns : tie.Need-returns
 unfolding extentOf
-returns c = rw (← c .extent-by .ensures)
+returns c = rw (← c .before .before .before .flag .ensures, ← c .before .before .flag2 .ensures, ← c .before .num .ensures, ← c .extent-by .ensures)
 
 pub extent-of-spec : {M : Type 1} → statement M
 extent-of-spec =
-    tie.close
-    (tie.spec
-    element-copy-out-enabled
-    element-copy-out-auto-shrink
-    mul-content-size
-    element-copy-out-content-size
-    extent-by-requires
-    returns)
+    tie.close (tie.spec flag-requires flag-requires-2 num-requires extent-by-requires returns)

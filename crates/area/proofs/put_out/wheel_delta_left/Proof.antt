@@ -1,24 +1,14 @@
 use borrow.Author.Needs.{needs}
-use Rattle.area.specs.PutOut.{wheelDeltaLeft}
+use Rattle.area.specs.PutOut.{deltaLeft, wheelDeltaLeft}
 use Rattle.area.proofs.put_out.wheel_delta_left.Statement.{statement}
 use Rattle.area.proofs.put_out.wheel_delta_left.Tie as tie
 
-array-read-pick : tie.Need-array-read-pick
-array-read-pick c = search needs
-
-pick-requires : tie.Need-pick-requires
-pick-requires c κs = search needs
-
-array-read-pick-2 : tie.Need-array-read-pick-2
-array-read-pick-2 c = search needs
-
-pick-requires-2 : tie.Need-pick-requires-2
-pick-requires-2 c κs = search needs
+delta-left-requires : tie.Need-delta-left-requires
+delta-left-requires c κs = search needs
 
 returns : tie.Need-returns
-unfolding wheelDeltaLeft
-returns c = rw (← c .before .before .pick .ensures, ← c .pick2 .ensures)
+unfolding deltaLeft wheelDeltaLeft
+returns c = rw (c .delta-left .ensures)
 
 pub wheel-delta-left-spec : {M : Type 1} → statement M
-wheel-delta-left-spec =
-    tie.close (tie.spec array-read-pick pick-requires array-read-pick-2 pick-requires-2 returns)
+wheel-delta-left-spec = tie.close (tie.spec delta-left-requires returns)

@@ -3,20 +3,19 @@ use Rattle.area.specs.WheelTurn.{heardOf}
 use Rattle.area.proofs.wheel_turn.hear_wheel.Statement.{statement}
 use Rattle.area.proofs.wheel_turn.hear_wheel.Tie as tie
 
-element-copy-out-only : tie.Need-element-copy-out-only
-element-copy-out-only c = search needs
+flag-requires : tie.Need-flag-requires
+flag-requires c κs = search needs
 
-element-copy-out-only-2 : tie.Need-element-copy-out-only-2
-element-copy-out-only-2 c = search needs
+flag-requires-2 : tie.Need-flag-requires-2
+flag-requires-2 c κs = search needs
 
 rect-contains-pointer-requires : tie.Need-rect-contains-pointer-requires
 rect-contains-pointer-requires c κs = search needs
 
 returns : tie.Need-returns
 unfolding heardOf
-returns c = rw (← c .before .before .rect-contains-pointer .ensures)
+returns c = rw (← c .before .before .before .before .flag .ensures, ← c .before .before .before .flag2 .ensures, ← c .before .before .rect-contains-pointer .ensures)
 
 pub hear-wheel-spec : {M : Type 1} → statement M
 hear-wheel-spec =
-    tie.close
-    (tie.spec element-copy-out-only element-copy-out-only-2 rect-contains-pointer-requires returns)
+    tie.close (tie.spec flag-requires flag-requires-2 rect-contains-pointer-requires returns)
