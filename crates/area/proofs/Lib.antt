@@ -1,5 +1,5 @@
-pub mod LayoutLaws
 pub mod TestLaws
+pub mod SweepLaws
 pub mod OrderLaws
 pub mod CallLaws
 pub mod FollowLaws

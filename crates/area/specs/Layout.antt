@@ -46,37 +46,37 @@ abbrev pub aboveZero : ℕ
 aboveZero = 5
 
 -- in a row, `option` is the flag word of the option that the word lies in, and `start` the word that it may not be below, each 0 if there is none
-abbrev kind : ℕ → Row
+abbrev pub kind : ℕ → Row
 kind n = record { how = whole; most = n; option = 0; bound = any; start = 0 }
 
-abbrev flag : Row
+abbrev pub flag : Row
 flag = kind 1
 
-abbrev bounded : ℕ → ℕ → Row
+abbrev pub bounded : ℕ → ℕ → Row
 bounded h b = record { how = h; most = 0; option = 0; bound = b; start = 0 }
 
-abbrev plain : Row
+abbrev pub plain : Row
 plain = bounded number any
 
 -- a size, length, width, margin or dt
-abbrev size : Row
+abbrev pub size : Row
 size = bounded number notNegative
 
-abbrev sizeOrInfinity : Row
+abbrev pub sizeOrInfinity : Row
 sizeOrInfinity = bounded numberOrInfinity notNegative
 
-abbrev factor : Row
+abbrev pub factor : Row
 factor = bounded number fromZeroToOne
 
-abbrev pointsPerSecond : Row
+abbrev pub pointsPerSecond : Row
 pointsPerSecond = bounded numberOrInfinity aboveZero
 
 -- the end of a rectangle's side, a duration or a target range that starts at word n
-abbrev endOf : ℕ → Row
+abbrev pub endOf : ℕ → Row
 endOf n = record { how = number; most = 0; option = 0; bound = any; start = n }
 
 -- the row inside the option whose flag is word n
-abbrev inside : ℕ → Row → Row
+abbrev pub inside : ℕ → Row → Row
 inside n r = record { how = r .how; most = r .most; option = n; bound = r .bound; start = r .start }
 
 -- ---- the words that begin a field
@@ -242,22 +242,22 @@ abbrev field : ℕ → List Row → Field
 field n rows = record { at = n; rows = rows }
 
 -- a rectangle at word n, an animation at word n, a bar's response at word n
-abbrev rectAt : ℕ → List Row
+abbrev pub rectAt : ℕ → List Row
 rectAt n = plain ∷ plain ∷ endOf n ∷ endOf (n + 1) ∷ []
 
-abbrev animationAt : ℕ → List Row
+abbrev pub animationAt : ℕ → List Row
 animationAt n = pointsPerSecond ∷ plain ∷ endOf (n + 1) ∷ []
 
-abbrev barAt : ℕ → List Row
+abbrev pub barAt : ℕ → List Row
 barAt n = flag ∷ flag ∷ flag ∷ inside (n + 2) plain ∷ inside (n + 2) plain ∷ []
 
 -- an option at word n, whose words are the rows
-abbrev optionAt : ℕ → List Row → List Row
+abbrev pub optionAt : ℕ → List Row → List Row
 optionAt n [] = []
 optionAt n (r ∷ rows) = inside n r ∷ optionAt n rows
 
 -- a target option at word n: range, align, animation
-abbrev targetAt : ℕ → List Row
+abbrev pub targetAt : ℕ → List Row
 targetAt n = flag ∷ optionAt n (plain ∷ endOf (n + 1) ∷ kind 3 ∷ animationAt (n + 4))
 
 abbrev settings : List Field

@@ -5,6 +5,7 @@ pub mod State
 pub mod Layout
 pub mod Frame
 pub mod Checks
+pub mod Sweep
 pub mod Geometry
 pub mod AxisPhysics
 pub mod Space

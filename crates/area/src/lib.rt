@@ -25,6 +25,7 @@ mod settle;
 mod space;
 mod state;
 mod stick;
+mod sweep;
 mod wheel_turn;
 
 pub use bar::HandleRect;

@@ -1,0 +1,5 @@
+//! The library.
+
+fn main() {
+    bench::drive(strakobud::fresh, strakobud::frame);
+}

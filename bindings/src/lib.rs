@@ -1,0 +1,45 @@
+//! The host library for Rust: the functions of include/strakobud.h, which documents them.
+
+/// A state's record.
+pub type StateBytes = [u8; 148];
+
+/// The record of what a frame puts out besides the state.
+pub type OutBytes = [u8; 100];
+
+mod c {
+    extern "C" {
+        pub fn strakobud_fresh(state: *mut u8);
+        pub fn strakobud_frame(state: *mut u8, frame: *const u8, len: usize, out: *mut u8) -> u32;
+        pub fn strakobud_offset(state: *const u8, out: *mut u8) -> u32;
+        pub fn strakobud_drag(call: *const u8, out: *mut u8) -> u32;
+        pub fn strakobud_step(call: *const u8, out: *mut u8) -> u32;
+        pub fn strakobud_wheel(call: *const u8, out: *mut u8) -> u32;
+    }
+}
+
+// In each call the arrays have the lengths that the header names, and no other reference to those written lives.
+
+pub fn fresh(state: &mut StateBytes) {
+    unsafe { c::strakobud_fresh(state.as_mut_ptr()) }
+}
+
+pub fn frame(state: &mut StateBytes, frame: &[u8], out: &mut OutBytes) -> u32 {
+    let (bytes, len) = (frame.as_ptr(), frame.len());
+    unsafe { c::strakobud_frame(state.as_mut_ptr(), bytes, len, out.as_mut_ptr()) }
+}
+
+pub fn offset(state: &StateBytes, out: &mut [u8; 8]) -> u32 {
+    unsafe { c::strakobud_offset(state.as_ptr(), out.as_mut_ptr()) }
+}
+
+pub fn drag(call: &[u8; 32], out: &mut [u8; 4]) -> u32 {
+    unsafe { c::strakobud_drag(call.as_ptr(), out.as_mut_ptr()) }
+}
+
+pub fn step(call: &[u8; 40], out: &mut [u8; 12]) -> u32 {
+    unsafe { c::strakobud_step(call.as_ptr(), out.as_mut_ptr()) }
+}
+
+pub fn wheel(call: &[u8; 52], out: &mut [u8; 16]) -> u32 {
+    unsafe { c::strakobud_wheel(call.as_ptr(), out.as_mut_ptr()) }
+}

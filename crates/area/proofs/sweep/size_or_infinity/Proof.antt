@@ -1,0 +1,24 @@
+use borrow.Author.Needs.{needs}
+use Rattle.area.specs.Sweep.{shownBy}
+use Rattle.area.specs.Checks.{isHeeded, isShown, shows2, shows3, shows4, shows5}
+use Rattle.area.proofs.SweepLaws.{or-false}
+use Rattle.area.proofs.sweep.size_or_infinity.Statement.{statement}
+use Rattle.area.proofs.sweep.size_or_infinity.Tie as tie
+
+number-in-requires : tie.Need-number-in-requires
+number-in-requires c κs = search needs
+
+exceeds-unless-infinity-requires : tie.Need-exceeds-unless-infinity-requires
+exceeds-unless-infinity-requires c κs = search needs
+
+with-number-requires : tie.Need-with-number-requires
+with-number-requires c κs = search needs
+
+returns : tie.Need-returns
+unfolding shownBy isHeeded isShown shows2 shows3 shows4 shows5
+returns c = rw (← c .before .before .number-in .ensures, ← c .before .exceeds-unless-infinity .ensures) (simp or-false (rw (← c .with-number .ensures)))
+
+pub size-or-infinity-spec : {M : Type 1} → statement M
+size-or-infinity-spec =
+    tie.close
+    (tie.spec number-in-requires exceeds-unless-infinity-requires with-number-requires returns)

@@ -1,0 +1,65 @@
+//! A list of events on a panel: rows arrive, the list stays on its last entry, and a touch sample that is not a number changes
+//! nothing. Words are numbered from 1, as in include/strakobud.h.
+
+struct Frame([u8; 416]);
+
+impl Frame {
+    fn word(&mut self, number: usize, word: u32) {
+        self.0[4 * number - 4..4 * number].copy_from_slice(&word.to_le_bytes());
+    }
+
+    fn number(&mut self, number: usize, x: f32) {
+        self.word(number, x.to_bits());
+    }
+
+    /// A list 200 by 100 points, vertical only, that sticks to its end and holds content of that height.
+    fn of_list(content_height: f32) -> Frame {
+        let mut frame = Frame([0; 416]);
+        // direction y, auto_shrink x and y, stick_to_end y, floating bars
+        for flag in [2, 3, 4, 25, 27] {
+            frame.word(flag, 1);
+        }
+        let numbers = [
+            (5, f32::INFINITY), // max_size
+            (6, f32::INFINITY),
+            (7, 64.0), // min_scrolled_size
+            (8, 64.0),
+            (37, 1.0),   // decay_time
+            (38, 1.0),   // stop_distance
+            (42, 200.0), // available rectangle, then clip
+            (43, 100.0),
+            (46, 200.0),
+            (47, 100.0),
+            (82, 180.0), // content size
+            (83, content_height),
+            (88, 1.0), // points per second of the scroll delta
+        ];
+        for (number, x) in numbers {
+            frame.number(number, x);
+        }
+        frame
+    }
+}
+
+fn shown_offset(state: &strakobud::StateBytes) -> f32 {
+    let mut out = [0; 8];
+    strakobud::offset(state, &mut out);
+    f32::from_le_bytes(out[4..].try_into().expect("four bytes"))
+}
+
+fn main() {
+    let (mut state, mut out) = ([0; 148], [0; 100]);
+    strakobud::fresh(&mut state);
+    let mut run = |what: &str, frame: &[u8]| {
+        let refusal = strakobud::frame(&mut state, frame, &mut out);
+        let offset = shown_offset(&state);
+        println!("{what}: refusal {refusal}, shown offset {offset:.1}");
+    };
+    run("20 rows", &Frame::of_list(400.0).0);
+    let mut frame = Frame::of_list(420.0);
+    run("21 rows", &frame.0);
+    frame.word(61, 1); // dragged, by
+    frame.number(58, f32::NAN); // a pointer delta that is not a number
+    run("a bad sample", &frame.0);
+    run("a short frame", &frame.0[..100]);
+}

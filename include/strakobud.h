@@ -1,0 +1,86 @@
+/* Strakobud: a scrolling core whose every answer is proved.
+ *
+ * Every record is a row of 32-bit words, each in four bytes, the lowest first. A number is the word of its IEEE 754
+ * binary32 bits; a time is two words, the low one first, of its binary64 bits; a flag is 0 or 1. Pairs and points stand
+ * as x, y; rectangles as min x, min y, max x, max y. An option is a flag and then its words: ignored when read and zeros
+ * when written where the flag is 0.
+ *
+ * No call allocates, keeps a pointer, or touches anything but what it is handed. The buffers of one call must not
+ * overlap, must have at least the lengths named, and nobody else may write them meanwhile. Alignment does not matter.
+ * Calls on different buffers may run in different threads.
+ *
+ * Every answer is 0, or the number of a refusal:
+ *   1  the frame is not 416 bytes long
+ *   2  a flag is not 0 or 1, or a kind is outside its values
+ *   3  a number is not finite or exceeds 1,048,576 in magnitude
+ *   4  an end lies below its start, a size is negative, or a factor is outside 0 to 1
+ *   5  decay_time, stop_distance or points per second is outside its values
+ *   6  the state holds a number that is not finite, or a flag that is not 0 or 1
+ *   7  a press beside a handle for which the bar has no room
+ *   8  a number among the outputs is not finite
+ * The lowest that applies is answered; 7 goes before 8.
+ */
+#ifndef STRAKOBUD_H
+#define STRAKOBUD_H
+
+#include <stddef.h>
+#include <stdint.h>
+
+#ifdef __cplusplus
+extern "C" {
+#endif
+
+#define STRAKOBUD_STATE_BYTES 148
+#define STRAKOBUD_FRAME_BYTES 416
+#define STRAKOBUD_OUT_BYTES 100
+
+/* Writes a fresh state: at the start, at rest, stuck to the end.
+ *
+ * The 37 words of a state: offset 2, max_offset 2; for each axis its scroll target under way as flag, start 2, end 2,
+ * goal; show_scroll 2, content_is_too_large 2, scroll_bar_interaction 2, velocity 2; for each axis the bar's press as
+ * flag and number; stuck to end 2, interact_rect as flag and 4, bounced_this_momentum 2. */
+void strakobud_fresh(uint8_t state[STRAKOBUD_STATE_BYTES]);
+
+/* Runs one frame on the state. 0: the state is the next one, and out holds what the frame puts out besides it.
+ * A refusal: neither buffer is changed.
+ *
+ * The 104 words of a frame:
+ *   settings 1-26: direction_enabled 2, auto_shrink 2, max_size 2, min_scrolled_size 2, bar visibility (0 hidden,
+ *     1 when needed, 2 always), scroll_bar_rect option 5, offset_x option 2, offset_y option 2, scroll_bar, drag
+ *     (0 never, 1 on touch, 2 always), mouse_wheel, wheel multiplier 2, stick_to_end 2, animated;
+ *   style 27-39: floating, allocated width, bar width, inner margin, outer margin, floating width, handle_min_length,
+ *     item_spacing 2, always scroll the only direction, decay_time, stop_distance, rubber_band;
+ *   host 40-81: available rectangle 4, clip 4, enabled, touch, scrolling ancestor, stable_dt, time 2, pointer option 3,
+ *     pointer delta 2, pointer velocity 2, dragged, drag stopped, wheel source (0 none, 1 unknown, 2 wheel, 3 trackpad,
+ *     4 momentum), wheel delta 2, bar factors 2, bar factors on opening 2, hover factors 2, and for each axis's bar
+ *     hovered, dragged, press option 3;
+ *   content 82-104: size 2, min 2, scroll delta 2, its animation (points per second, shortest, longest), and for each
+ *     axis a target option of 7: flag, start, end, align (0 none, 1 min, 2 center, 3 max), animation 3.
+ *
+ * The 25 words of out: content size 2, inner rectangle 4, viewport 4, for each axis its handle as an option of 5, wheel
+ * delta left 2, scroll delta left 2, repaint wanted. */
+uint32_t strakobud_frame(uint8_t state[STRAKOBUD_STATE_BYTES], const uint8_t *frame, size_t len,
+                         uint8_t out[STRAKOBUD_OUT_BYTES]);
+
+/* The shown offset x, y: the stored one held to its range. 0, or 6 for a state with a flag that is not 0 or 1, with out
+ * as it was. */
+uint32_t strakobud_offset(const uint8_t state[STRAKOBUD_STATE_BYTES], uint8_t out[8]);
+
+/* One axis by itself. A call begins with bounds min, bounds max, extent, decay_time, stop_distance, rubber_band. On a
+ * refusal out holds what was given, with the answer 0. */
+
+/* then offset, delta; out: offset */
+uint32_t strakobud_drag(const uint8_t call[32], uint8_t out[4]);
+
+/* then offset, velocity, dt, hold; out: offset, velocity, answer (1 while it moves) */
+uint32_t strakobud_step(const uint8_t call[40], uint8_t out[12]);
+
+/* then offset, velocity, delta, source, can_chain_to_parent, dt, bounced; out: offset, velocity, bounced, answer (1 if
+ * the delta is taken) */
+uint32_t strakobud_wheel(const uint8_t call[52], uint8_t out[16]);
+
+#ifdef __cplusplus
+}
+#endif
+
+#endif
