@@ -8,8 +8,7 @@ use native.Mathlib.Omega.{arith}
 use lib.Dec.{eqb}
 use lib.ListN.{length}
 use borrow.Author.Tests.{eqb-true, not-false, ne-eqb}
-use Rattle.area.specs.declared.layout.Row.{Row}
-use Rattle.area.specs.Layout.{flag, rowNo, inside, optionAt}
+use Rattle.area.specs.Layout.{Row, flag, rowNo, inside, optionAt}
 use Rattle.area.specs.Frame.{flagNo}
 use Rattle.area.specs.Checks.{isHeeded, shows2, shows3, shows4, shows5, isShown, showsNo, anyShows, frameRefusal}
 use Rattle.area.specs.Sweep.{shownBy, lowerOf, sweepFrom, sweepRows, lowestOf}

@@ -9,7 +9,6 @@ use Rattle.numbers.specs.F32.{over, one}
 use Rattle.numbers.specs.F32 as F32
 use Rattle.numbers.specs.Scalar.{isFinite}
 use Rattle.axis.specs.Limits.{exceedsLimit, isDecayTimeOutside}
-use Rattle.area.specs.declared.layout.Row.{Row}
 use Rattle.area.specs.declared.state.State.{State}
 use Rattle.area.specs.declared.state.MaybeTarget.{MaybeTarget}
 use Rattle.area.specs.declared.state.OffsetTarget.{OffsetTarget}
@@ -19,7 +18,7 @@ use Rattle.area.specs.declared.state.MaybeRect.{MaybeRect}
 use Rattle.area.specs.Pair.{num}
 use Rattle.area.specs.State.{noTarget, noPress}
 use Rattle.area.specs.Layout as At
-use Rattle.area.specs.Layout.{rowNo}
+use Rattle.area.specs.Layout.{Row, rowNo}
 use Rattle.area.specs.Frame.{wordNo, numberNo, timeNo}
 
 -- "A word inside an option whose flag is 0" is not heeded

@@ -6,9 +6,15 @@ use mathlib.Core.List.{List, [], _∷_, _++_}
 use Prim.Native.Nat.{ℕ, _+_, _-_}
 use lib.Dec.{T, eqb}
 use lib.ListN.{length, getD}
-use Rattle.area.specs.declared.layout.Row.{Row}
 
--- ---- a row: how a word is read, and what is asked of it
+-- ---- a row: how a word is read; the most that a flag or kind may be; the flag word of the option that the word lies in and the word that
+-- it may not be below, each 0 if there is none; what else is asked of it
+pub record Row : Type 0 where
+  pub how : ℕ
+  pub most : ℕ
+  pub option : ℕ
+  pub bound : ℕ
+  pub start : ℕ
 
 -- how: a whole number from 0 to `most` (a flag's is 1), a number, a number or +infinity, or half of the time
 abbrev pub whole : ℕ
@@ -45,7 +51,6 @@ stopDistance = 4
 abbrev pub aboveZero : ℕ
 aboveZero = 5
 
--- in a row, `option` is the flag word of the option that the word lies in, and `start` the word that it may not be below, each 0 if there is none
 abbrev pub kind : ℕ → Row
 kind n = record { how = whole; most = n; option = 0; bound = any; start = 0 }
 

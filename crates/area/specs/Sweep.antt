@@ -5,8 +5,7 @@ use mathlib.Core.List.{List, [], _∷_}
 use Prim.Native.Nat.{ℕ, zero, suc, _+_, _<_, _≤_}
 use lib.Dec.{eqb, ltb}
 use lib.ListN.{length}
-use Rattle.area.specs.declared.layout.Row.{Row}
-use Rattle.area.specs.Layout.{kind, plain, endOf, animationAt, rowNo}
+use Rattle.area.specs.Layout.{Row, kind, plain, endOf, animationAt, rowNo}
 use Rattle.area.specs.Checks.{isHeeded, isShown, anyShows}
 
 -- word n of a whole frame, at most word `last`

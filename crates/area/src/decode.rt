@@ -117,26 +117,26 @@ fn content_of(s: &[u8]) -> Content
 }
 
 // The number before n; 0 has none, and stays.
-pub fn before(n: u32) -> u32
+fn before(n: u32) -> u32
     ensures { λ r. ⌜ r ≡ n - 1 ⌝ }
 {
     if n == 0 { 0 } else { n - 1 }
 }
 
 // Word n.
-pub fn word_at(s: &[u8], n: u32) -> u32
+fn word_at(s: &[u8], n: u32) -> u32
     ensures { λ r. ⌜ r ≡ Spec.wordNo (now (s .entry)) n ⌝ }
 {
     words::word(s, before(n))
 }
 
-pub fn number_at(s: &[u8], n: u32) -> f32
+fn number_at(s: &[u8], n: u32) -> f32
     ensures { λ r. ⌜ r ≡ Spec.numberNo (now (s .entry)) n ⌝ }
 {
     numbers::f32_of_bits(word_at(s, n))
 }
 
-pub fn flag_at(s: &[u8], n: u32) -> bool
+fn flag_at(s: &[u8], n: u32) -> bool
     ensures { λ r. ⌜ r ≡ Spec.flagNo (now (s .entry)) n ⌝ }
 {
     word_at(s, n) == 1

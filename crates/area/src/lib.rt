@@ -13,7 +13,6 @@ mod follow;
 mod frame;
 mod geometry;
 mod handle;
-mod layout;
 mod lent;
 mod outcome;
 mod pair;
