@@ -124,19 +124,19 @@ fn before(n: u32) -> u32
 }
 
 // Word n.
-fn word_at(s: &[u8], n: u32) -> u32
+pub fn word_at(s: &[u8], n: u32) -> u32
     ensures { λ r. ⌜ r ≡ Spec.wordNo (now (s .entry)) n ⌝ }
 {
     words::word(s, before(n))
 }
 
-fn number_at(s: &[u8], n: u32) -> f32
+pub fn number_at(s: &[u8], n: u32) -> f32
     ensures { λ r. ⌜ r ≡ Spec.numberNo (now (s .entry)) n ⌝ }
 {
     numbers::f32_of_bits(word_at(s, n))
 }
 
-fn flag_at(s: &[u8], n: u32) -> bool
+pub fn flag_at(s: &[u8], n: u32) -> bool
     ensures { λ r. ⌜ r ≡ Spec.flagNo (now (s .entry)) n ⌝ }
 {
     word_at(s, n) == 1
@@ -152,14 +152,14 @@ pub fn time_at(s: &[u8], n: u32) -> f64
     numbers::f64_of_bits((high as u64) * 4294967296 + (low as u64))
 }
 
-fn pair_at(s: &[u8], n: u32) -> [f32; 2]
+pub fn pair_at(s: &[u8], n: u32) -> [f32; 2]
     requires { ⌜ n ≤ 200 ⌝ }
     ensures { λ r. ⌜ r ≡ Spec.pairNo (now (s .entry)) n ⌝ }
 {
     [number_at(s, n), number_at(s, n + 1)]
 }
 
-fn flags_at(s: &[u8], n: u32) -> [bool; 2]
+pub fn flags_at(s: &[u8], n: u32) -> [bool; 2]
     requires { ⌜ n ≤ 200 ⌝ }
     ensures { λ r. ⌜ r ≡ Spec.flagsNo (now (s .entry)) n ⌝ }
 {
@@ -220,7 +220,7 @@ fn maybe_pos2_at(s: &[u8], n: u32) -> MaybePos2
     MaybePos2::Nothing
 }
 
-fn maybe_rect_at(s: &[u8], n: u32) -> MaybeRect
+pub fn maybe_rect_at(s: &[u8], n: u32) -> MaybeRect
     requires { ⌜ n ≤ 160 ⌝ }
     ensures { λ r. ⌜ r ≡ Spec.maybeRectNo (now (s .entry)) n ⌝ }
 {
@@ -306,7 +306,7 @@ fn drag_at(s: &[u8], n: u32) -> DragScroll
     DragScroll::Always
 }
 
-fn source_at(s: &[u8], n: u32) -> WheelSource
+pub fn source_at(s: &[u8], n: u32) -> WheelSource
     ensures { λ r. ⌜ r ≡ Spec.sourceNo (now (s .entry)) n ⌝ }
 {
     let w = word_at(s, n);

@@ -1,0 +1,48 @@
+use mathlib.Core.List.{[], _∷_}
+use borrow.Author.Needs.{needs}
+use Rattle.host.specs.Record.{numberWord, flagWord}
+use Rattle.host.proofs.PartLaws.{put-all}
+use Rattle.host.proofs.axis_calls.put_wheeled.Statement.{statement}
+use Rattle.host.proofs.axis_calls.put_wheeled.Tie as tie
+
+flag-word-requires : tie.Need-flag-word-requires
+flag-word-requires c κs = search needs
+
+flag-word-requires-2 : tie.Need-flag-word-requires-2
+flag-word-requires-2 c κs = search needs
+
+bits-of-f32-requires : tie.Need-bits-of-f32-requires
+bits-of-f32-requires c κs = search needs
+
+bits-of-f32-requires-2 : tie.Need-bits-of-f32-requires-2
+bits-of-f32-requires-2 c κs = search needs
+
+slice-aggregate-put : tie.Need-slice-aggregate-put
+slice-aggregate-put c = search needs
+
+put-requires : tie.Need-put-requires
+put-requires c κs = search needs
+
+returns : tie.Need-returns
+returns c =
+    let at-start = c .before .before .before .before .before .before .before in
+    rw (
+      c .put .ensures,
+      c .before .before .before .before .before .before .flag-word .ensures,
+      c .before .before .before .before .before .flag-word2 .ensures,
+      c .before .before .before .bits-of-f32 .ensures,
+      c .before .before .bits-of-f322 .ensures,
+      put-all (numberWord (at-start .args .w .offset) ∷ numberWord (at-start .args .w .vel) ∷ flagWord (at-start .args .w .«bounced_this_momentum») ∷ flagWord (at-start .args .w .consumed) ∷ []) (at-start .args .out .now) (search needs),
+    )
+
+pub put-wheeled-spec : {M : Type 1} → statement M
+put-wheeled-spec =
+    tie.close
+    (tie.spec
+    flag-word-requires
+    flag-word-requires-2
+    bits-of-f32-requires
+    bits-of-f32-requires-2
+    slice-aggregate-put
+    put-requires
+    returns)

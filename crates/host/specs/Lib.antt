@@ -1,0 +1,3 @@
+-- Records of words; then the calls on them.
+pub mod Record
+pub mod Calls

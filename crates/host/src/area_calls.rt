@@ -1,0 +1,61 @@
+// The calls on a state.
+ghost use mathlib.Core.Path.{_≡_};
+ghost use Rattle.host.specs.Calls as Spec;
+use crate::read::is_damaged;
+use crate::read::state_of;
+use crate::write::put_numbers;
+use crate::write::put_outcome;
+use crate::write::put_state;
+use area::State;
+
+#[no_mangle]
+pub extern "C" fn strakobud_fresh(state: &mut [u8; 148])
+    ensures { λ _. ⌜ now (state .exit) ≡ Spec.freshBytes ⌝ }
+{
+    put_state(state, State::default());
+}
+
+#[no_mangle]
+pub extern "C" fn strakobud_frame(state: &mut [u8; 148], frame: &[u8], out: &mut [u8; 100]) -> u32
+    ensures { λ r. ⌜ record { refusal = r; state = now (state .exit); out = now (out .exit) }
+        ≡ Spec.frameOn (now (state .entry)) (now (frame .entry)) (now (out .entry)) ⌝ }
+{
+    if is_damaged(state) {
+        return damaged_refusal(frame);
+    }
+    let a = area::frame_call(state_of(state), frame);
+    let o = a.outcome;
+    let refusal = o.refusal;
+    let accepted = refusal == 0;
+    if accepted {
+        let s = a.state;
+        put_state(state, s);
+        put_outcome(out, o);
+        return 0;
+    }
+    refusal
+}
+
+// The lowest of checks 1 to 5 that applies, or 6.
+fn damaged_refusal(frame: &[u8]) -> u32
+    ensures { λ r. ⌜ r ≡ Spec.damagedRefusal (now (frame .entry)) ⌝ }
+{
+    let refusal = area::frame_refusal(frame);
+    let passes = refusal == 0;
+    if passes {
+        return 6;
+    }
+    refusal
+}
+
+#[no_mangle]
+pub extern "C" fn strakobud_offset(state: &[u8; 148], out: &mut [u8; 8]) -> u32
+    ensures { λ r. ⌜ record { refusal = r; out = now (out .exit) } ≡ Spec.offsetOn (now (state .entry)) (now (out .entry)) ⌝ }
+{
+    if is_damaged(state) {
+        return 6;
+    }
+    let offset = state_of(state).clamped_offset();
+    put_numbers(out, 0, offset);
+    0
+}

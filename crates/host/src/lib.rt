@@ -1,0 +1,12 @@
+// The library that a panel links: each call takes and gives bytes, and include/strakobud.h says which.
+mod area_calls;
+mod axis_calls;
+mod read;
+mod write;
+
+pub use area_calls::strakobud_frame;
+pub use area_calls::strakobud_fresh;
+pub use area_calls::strakobud_offset;
+pub use axis_calls::strakobud_drag;
+pub use axis_calls::strakobud_step;
+pub use axis_calls::strakobud_wheel;
