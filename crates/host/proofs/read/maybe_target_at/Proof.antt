@@ -26,7 +26,14 @@ number-at-requires c κs = search needs
 
 returns : tie.Need-returns
 unfolding maybeTargetNo
-returns c = rw (← c .before .before .before .before .before .before .before .flag-at .ensures, c .before .before .before .before .before .before .if1 .taken, ← c .before .before .before .before .time-at .ensures, ← c .before .before .time-at2 .ensures, ← c .number-at .ensures)
+returns c =
+    rw (
+      ← c .before .before .before .before .before .before .before .flag-at .ensures,
+      c .before .before .before .before .before .before .if1 .taken,
+      ← c .before .before .before .before .time-at .ensures,
+      ← c .before .before .time-at2 .ensures,
+      ← c .number-at .ensures,
+    )
 
 returns-2 : tie.Need-returns-2
 unfolding maybeTargetNo
