@@ -1,14 +1,15 @@
 -- The steps of one frame are the frame call; what an accepted and what a refused frame tells. Assumes nothing.
 use mathlib.Core.Path.{_≡_, refl, sym, ap, _∙_}
-use mathlib.Core.Bool.{Bool, true, false, cond, _&&_, true≢false, false≢true}
+use mathlib.Core.Bool.{Bool, true, false, cond, not, _&&_, true≢false, false≢true}
 use mathlib.Core.List.{List}
 use Prim.Native.Nat.{ℕ}
 use borrow.Author.Tests.{eqb-true}
 use lib.Dec.{eqb}
 use lib.Ieee.{Float}
+use lib.ListN.{length}
 use Rattle.numbers.specs.Scalar.{isFinite}
 use Rattle.area.specs.Pair.{num}
-use Rattle.area.specs.Checks.{refusalOf, isPairFinite, areTargetsFinite, arePressesFinite, isRectFinite, isStateFinite}
+use Rattle.area.specs.Checks.{frameRefusal, stateRefusal, refusalOf, isPairFinite, areTargetsFinite, arePressesFinite, isRectFinite, isStateFinite}
 use Rattle.area.specs.End.{isPressBlocked}
 use Rattle.area.specs.PutOut.{nextState, outcomeOf, answerOf}
 use Rattle.area.specs.Outcome.{refusedOf, isOutcomeFinite, isAnswerFinite}
@@ -53,7 +54,18 @@ refused-by S outputs r true false true o a = absurd (true≢false (sym o ∙ a))
 refused-by S outputs r true false false o a = refl
 refused-by S outputs r false blocked finite o a = refl
 
+-- with whether the frame is whole, its first refusal k of checks 2 to 5, and check 6
+whole-by : (whole : Bool) (k state : ℕ)
+    → eqb (cond (eqb (cond (not whole) 1 k) 0) state (cond (not whole) 1 k)) 0 ≡ true → whole ≡ true
+whole-by true k state a = refl
+whole-by false k state a = absurd (false≢true a)
+
 -- ---- one frame
+
+-- a frame that no check turns back is whole
+pub whole-of : (S : State) (bytes : List ℕ) (r : ℕ) → r ≡ refusalOf bytes S → eqb r 0 ≡ true → length bytes ≡ 416
+unfolding refusalOf frameRefusal
+whole-of S bytes r e a = eqb-true (length bytes) 416 (whole-by (eqb (length bytes) 416) _ (stateRefusal S) (ap (λ (k : ℕ). eqb k 0) (sym e) ∙ a))
 
 -- "answers and state equal document 01's steps"
 pub step-is-call : (S : State) (bytes : List ℕ) → stepAt S bytes ≡ callOf S bytes

@@ -1,9 +1,10 @@
 -- The frame that the words stand for. "pairs and points in order x, y; rectangles as min, max. An option is a flag, then its words,
 -- ignored if the flag is 0."
-use Prim.Native.Nat.{ℕ, _+_, _-_, _*_}
+use Prim.Native.Nat.{ℕ, _+_, _-_, _*_, _<_, _≤_}
 use mathlib.Core.Bool.{Bool, cond}
 use mathlib.Core.List.{List, [], _∷_}
 use lib.Dec.{eqb}
+use lib.ListN.{length}
 use lib.Ieee.{Float, binary32, binary64, ofBits}
 use Rattle.words.specs.Words.{wordAt}
 use Rattle.numbers.specs.declared.shape.Align.{Align}
@@ -33,6 +34,10 @@ use Rattle.area.specs.Layout as At
 -- ---- a word, by its number from 1
 unfoldable pub wordNo : List ℕ → ℕ → ℕ
 wordNo s n = wordAt s (n - 1)
+
+-- word n and the k words after it are all there; no frame or record has more than 200 words
+abbrev pub Holds : List ℕ → ℕ → ℕ → Type 0
+Holds s n k = (0 < n) × (n + k ≤ 200) × (4 * (n + k) ≤ length s)
 
 unfoldable pub numberNo : List ℕ → ℕ → Float
 numberNo s n = ofBits binary32 (wordNo s n)

@@ -1,6 +1,6 @@
 // A frame from its bytes. Words are numbered from 1, as in the document; specs/Layout.antt says which is which.
 ghost use mathlib.Core.Path.{_≡_};
-ghost use Prim.Native.Nat.{_-_, _≤_};
+ghost use lib.ListN.{length};
 ghost use Rattle.area.specs.Frame as Spec;
 use crate::frame::BarResponse;
 use crate::frame::Content;
@@ -26,8 +26,9 @@ use numbers::Pos2;
 use numbers::Rangef;
 use numbers::Rect;
 
-// The frame that any slice of bytes stands for; what is missing at its end reads as zeros.
+// The frame that 416 bytes stand for: its words are read without a test of the end.
 pub fn frame_of(s: &[u8]) -> Frame
+    requires { ⌜ length (now s) ≡ 416 ⌝ }
     ensures { λ r. ⌜ r ≡ Spec.frameOf (now (s .entry)) ⌝ }
 {
     Frame {
@@ -39,6 +40,7 @@ pub fn frame_of(s: &[u8]) -> Frame
 }
 
 fn settings_of(s: &[u8]) -> Settings
+    requires { ⌜ length (now s) ≡ 416 ⌝ }
     ensures { λ r. ⌜ r ≡ Spec.settingsOf (now (s .entry)) ⌝ }
 {
     Settings {
@@ -59,6 +61,7 @@ fn settings_of(s: &[u8]) -> Settings
 }
 
 fn style_of(s: &[u8]) -> Style
+    requires { ⌜ length (now s) ≡ 416 ⌝ }
     ensures { λ r. ⌜ r ≡ Spec.styleOf (now (s .entry)) ⌝ }
 {
     Style {
@@ -80,6 +83,7 @@ fn style_of(s: &[u8]) -> Style
 }
 
 fn host_of(s: &[u8]) -> Host
+    requires { ⌜ length (now s) ≡ 416 ⌝ }
     ensures { λ r. ⌜ r ≡ Spec.hostOf (now (s .entry)) ⌝ }
 {
     Host {
@@ -105,6 +109,7 @@ fn host_of(s: &[u8]) -> Host
 }
 
 fn content_of(s: &[u8]) -> Content
+    requires { ⌜ length (now s) ≡ 416 ⌝ }
     ensures { λ r. ⌜ r ≡ Spec.contentOf (now (s .entry)) ⌝ }
 {
     Content {
@@ -116,27 +121,23 @@ fn content_of(s: &[u8]) -> Content
     }
 }
 
-// The number before n; 0 has none, and stays.
-fn before(n: u32) -> u32
-    ensures { λ r. ⌜ r ≡ n - 1 ⌝ }
-{
-    if n == 0 { 0 } else { n - 1 }
-}
-
 // Word n.
 pub fn word_at(s: &[u8], n: u32) -> u32
+    requires { ⌜ Spec.Holds (now s) n 0 ⌝ }
     ensures { λ r. ⌜ r ≡ Spec.wordNo (now (s .entry)) n ⌝ }
 {
-    words::word(s, before(n))
+    words::word_in(s, n - 1)
 }
 
 pub fn number_at(s: &[u8], n: u32) -> f32
+    requires { ⌜ Spec.Holds (now s) n 0 ⌝ }
     ensures { λ r. ⌜ r ≡ Spec.numberNo (now (s .entry)) n ⌝ }
 {
     numbers::f32_of_bits(word_at(s, n))
 }
 
 pub fn flag_at(s: &[u8], n: u32) -> bool
+    requires { ⌜ Spec.Holds (now s) n 0 ⌝ }
     ensures { λ r. ⌜ r ≡ Spec.flagNo (now (s .entry)) n ⌝ }
 {
     word_at(s, n) == 1
@@ -144,7 +145,7 @@ pub fn flag_at(s: &[u8], n: u32) -> bool
 
 // An f64, low word first.
 pub fn time_at(s: &[u8], n: u32) -> f64
-    requires { ⌜ n ≤ 200 ⌝ }
+    requires { ⌜ Spec.Holds (now s) n 1 ⌝ }
     ensures { λ r. ⌜ r ≡ Spec.timeNo (now (s .entry)) n ⌝ }
 {
     let low = word_at(s, n);
@@ -153,21 +154,21 @@ pub fn time_at(s: &[u8], n: u32) -> f64
 }
 
 pub fn pair_at(s: &[u8], n: u32) -> [f32; 2]
-    requires { ⌜ n ≤ 200 ⌝ }
+    requires { ⌜ Spec.Holds (now s) n 1 ⌝ }
     ensures { λ r. ⌜ r ≡ Spec.pairNo (now (s .entry)) n ⌝ }
 {
     [number_at(s, n), number_at(s, n + 1)]
 }
 
 pub fn flags_at(s: &[u8], n: u32) -> [bool; 2]
-    requires { ⌜ n ≤ 200 ⌝ }
+    requires { ⌜ Spec.Holds (now s) n 1 ⌝ }
     ensures { λ r. ⌜ r ≡ Spec.flagsNo (now (s .entry)) n ⌝ }
 {
     [flag_at(s, n), flag_at(s, n + 1)]
 }
 
 fn pos2_at(s: &[u8], n: u32) -> Pos2
-    requires { ⌜ n ≤ 200 ⌝ }
+    requires { ⌜ Spec.Holds (now s) n 1 ⌝ }
     ensures { λ r. ⌜ r ≡ Spec.pos2No (now (s .entry)) n ⌝ }
 {
     Pos2 {
@@ -177,7 +178,7 @@ fn pos2_at(s: &[u8], n: u32) -> Pos2
 }
 
 fn rect_at(s: &[u8], n: u32) -> Rect
-    requires { ⌜ n ≤ 180 ⌝ }
+    requires { ⌜ Spec.Holds (now s) n 3 ⌝ }
     ensures { λ r. ⌜ r ≡ Spec.rectNo (now (s .entry)) n ⌝ }
 {
     Rect {
@@ -187,7 +188,7 @@ fn rect_at(s: &[u8], n: u32) -> Rect
 }
 
 fn rangef_at(s: &[u8], n: u32) -> Rangef
-    requires { ⌜ n ≤ 200 ⌝ }
+    requires { ⌜ Spec.Holds (now s) n 1 ⌝ }
     ensures { λ r. ⌜ r ≡ Spec.rangefNo (now (s .entry)) n ⌝ }
 {
     Rangef {
@@ -197,7 +198,7 @@ fn rangef_at(s: &[u8], n: u32) -> Rangef
 }
 
 fn given_offset_at(s: &[u8], n: u32) -> GivenOffset
-    requires { ⌜ n ≤ 200 ⌝ }
+    requires { ⌜ Spec.Holds (now s) n 1 ⌝ }
     ensures { λ r. ⌜ r ≡ Spec.givenOffsetNo (now (s .entry)) n ⌝ }
 {
     if flag_at(s, n) {
@@ -211,7 +212,7 @@ fn given_offset_at(s: &[u8], n: u32) -> GivenOffset
 }
 
 fn maybe_pos2_at(s: &[u8], n: u32) -> MaybePos2
-    requires { ⌜ n ≤ 180 ⌝ }
+    requires { ⌜ Spec.Holds (now s) n 2 ⌝ }
     ensures { λ r. ⌜ r ≡ Spec.maybePos2No (now (s .entry)) n ⌝ }
 {
     if flag_at(s, n) {
@@ -221,7 +222,7 @@ fn maybe_pos2_at(s: &[u8], n: u32) -> MaybePos2
 }
 
 pub fn maybe_rect_at(s: &[u8], n: u32) -> MaybeRect
-    requires { ⌜ n ≤ 160 ⌝ }
+    requires { ⌜ Spec.Holds (now s) n 4 ⌝ }
     ensures { λ r. ⌜ r ≡ Spec.maybeRectNo (now (s .entry)) n ⌝ }
 {
     if flag_at(s, n) {
@@ -231,7 +232,7 @@ pub fn maybe_rect_at(s: &[u8], n: u32) -> MaybeRect
 }
 
 fn bar_response_at(s: &[u8], n: u32) -> BarResponse
-    requires { ⌜ n ≤ 160 ⌝ }
+    requires { ⌜ Spec.Holds (now s) n 4 ⌝ }
     ensures { λ r. ⌜ r ≡ Spec.barResponseNo (now (s .entry)) n ⌝ }
 {
     BarResponse {
@@ -242,7 +243,7 @@ fn bar_response_at(s: &[u8], n: u32) -> BarResponse
 }
 
 fn animation_at(s: &[u8], n: u32) -> ScrollAnimation
-    requires { ⌜ n ≤ 180 ⌝ }
+    requires { ⌜ Spec.Holds (now s) n 2 ⌝ }
     ensures { λ r. ⌜ r ≡ Spec.animationNo (now (s .entry)) n ⌝ }
 {
     ScrollAnimation {
@@ -252,7 +253,7 @@ fn animation_at(s: &[u8], n: u32) -> ScrollAnimation
 }
 
 fn scroll_target_at(s: &[u8], n: u32) -> ScrollTarget
-    requires { ⌜ n ≤ 160 ⌝ }
+    requires { ⌜ Spec.Holds (now s) n 5 ⌝ }
     ensures { λ r. ⌜ r ≡ Spec.scrollTargetNo (now (s .entry)) n ⌝ }
 {
     ScrollTarget {
@@ -263,7 +264,7 @@ fn scroll_target_at(s: &[u8], n: u32) -> ScrollTarget
 }
 
 fn target_request_at(s: &[u8], n: u32) -> TargetRequest
-    requires { ⌜ n ≤ 140 ⌝ }
+    requires { ⌜ Spec.Holds (now s) n 6 ⌝ }
     ensures { λ r. ⌜ r ≡ Spec.targetRequestNo (now (s .entry)) n ⌝ }
 {
     if flag_at(s, n) {
@@ -277,6 +278,7 @@ fn target_request_at(s: &[u8], n: u32) -> TargetRequest
 }
 
 fn visibility_at(s: &[u8], n: u32) -> ScrollBarVisibility
+    requires { ⌜ Spec.Holds (now s) n 0 ⌝ }
     ensures { λ r. ⌜ r ≡ Spec.visibilityNo (now (s .entry)) n ⌝ }
 {
     let w = word_at(s, n);
@@ -292,6 +294,7 @@ fn visibility_at(s: &[u8], n: u32) -> ScrollBarVisibility
 }
 
 fn drag_at(s: &[u8], n: u32) -> DragScroll
+    requires { ⌜ Spec.Holds (now s) n 0 ⌝ }
     ensures { λ r. ⌜ r ≡ Spec.dragNo (now (s .entry)) n ⌝ }
 {
     let w = word_at(s, n);
@@ -307,6 +310,7 @@ fn drag_at(s: &[u8], n: u32) -> DragScroll
 }
 
 pub fn source_at(s: &[u8], n: u32) -> WheelSource
+    requires { ⌜ Spec.Holds (now s) n 0 ⌝ }
     ensures { λ r. ⌜ r ≡ Spec.sourceNo (now (s .entry)) n ⌝ }
 {
     let w = word_at(s, n);
@@ -330,6 +334,7 @@ pub fn source_at(s: &[u8], n: u32) -> WheelSource
 }
 
 fn align_at(s: &[u8], n: u32) -> MaybeAlign
+    requires { ⌜ Spec.Holds (now s) n 0 ⌝ }
     ensures { λ r. ⌜ r ≡ Spec.alignNo (now (s .entry)) n ⌝ }
 {
     let w = word_at(s, n);

@@ -34,7 +34,6 @@ pub use checks::refusal_of;
 pub use checks::state_refusal;
 pub use decode::flag_at;
 pub use decode::flags_at;
-pub use decode::frame_of;
 pub use decode::maybe_rect_at;
 pub use decode::number_at;
 pub use decode::pair_at;

@@ -8,42 +8,14 @@ ghost use lib.ListN.{length};
 ghost use lib.Ieee.{ne};
 ghost use Rattle.axis.specs.Limits.{exceedsLimit};
 ghost use Rattle.area.specs.Checks.{infinity};
-ghost use Rattle.area.specs.Frame.{wordNo, numberNo, flagNo};
 ghost use Rattle.area.specs.Layout as At;
 ghost use Rattle.area.specs.Sweep as Spec;
+use crate::decode::flag_at;
+use crate::decode::number_at;
 use crate::decode::time_at;
+use crate::decode::word_at;
 use axis::exceeds_limit;
 use axis::is_decay_time_outside;
-
-// ---- a word of a whole frame, which needs no test of the length
-
-fn word_in(s: &[u8], n: u32) -> u32
-    requires { ⌜ Spec.Within (now s) n 104 ⌝ }
-    ensures { λ r. ⌜ r ≡ wordNo (now (s .entry)) n ⌝ }
-{
-    let k = 4 * ((n - 1) as usize);
-    wide(s[k]) + 256 * wide(s[k + 1]) + 65536 * wide(s[k + 2]) + 16777216 * wide(s[k + 3])
-}
-
-fn wide(b: u8) -> u32
-    ensures { λ r. ⌜ (r ≡ b) × (r < 256) ⌝ }
-{
-    b as u32
-}
-
-fn number_in(s: &[u8], n: u32) -> f32
-    requires { ⌜ Spec.Within (now s) n 104 ⌝ }
-    ensures { λ r. ⌜ r ≡ numberNo (now (s .entry)) n ⌝ }
-{
-    numbers::f32_of_bits(word_in(s, n))
-}
-
-fn is_on(s: &[u8], n: u32) -> bool
-    requires { ⌜ Spec.Within (now s) n 104 ⌝ }
-    ensures { λ r. ⌜ r ≡ flagNo (now (s .entry)) n ⌝ }
-{
-    word_in(s, n) == 1
-}
 
 // ---- the lowest number
 
@@ -93,7 +65,7 @@ fn kind(low: u32, s: &[u8], n: u32, most: u32) -> u32
     requires { ⌜ Spec.Within (now s) n 104 ⌝ }
     ensures { λ r. ⌜ r ≡ Spec.lowerOf low (Spec.shownBy (At.kind most) (now (s .entry)) n) ⌝ }
 {
-    let is_outside = most < word_in(s, n);
+    let is_outside = most < word_at(s, n);
     if is_outside {
         return lower_of(low, 2);
     }
@@ -111,7 +83,7 @@ fn plain(low: u32, s: &[u8], n: u32) -> u32
     requires { ⌜ Spec.Within (now s) n 104 ⌝ }
     ensures { λ r. ⌜ r ≡ Spec.lowerOf low (Spec.shownBy At.plain (now (s .entry)) n) ⌝ }
 {
-    let x = number_in(s, n);
+    let x = number_at(s, n);
     with_number(low, exceeds_limit(x), false, 0)
 }
 
@@ -119,7 +91,7 @@ fn size(low: u32, s: &[u8], n: u32) -> u32
     requires { ⌜ Spec.Within (now s) n 104 ⌝ }
     ensures { λ r. ⌜ r ≡ Spec.lowerOf low (Spec.shownBy At.size (now (s .entry)) n) ⌝ }
 {
-    let x = number_in(s, n);
+    let x = number_at(s, n);
     with_number(low, exceeds_limit(x), x < 0.0, 4)
 }
 
@@ -127,7 +99,7 @@ fn size_or_infinity(low: u32, s: &[u8], n: u32) -> u32
     requires { ⌜ Spec.Within (now s) n 104 ⌝ }
     ensures { λ r. ⌜ r ≡ Spec.lowerOf low (Spec.shownBy At.sizeOrInfinity (now (s .entry)) n) ⌝ }
 {
-    let x = number_in(s, n);
+    let x = number_at(s, n);
     with_number(low, exceeds_unless_infinity(x), x < 0.0, 4)
 }
 
@@ -135,7 +107,7 @@ fn factor(low: u32, s: &[u8], n: u32) -> u32
     requires { ⌜ Spec.Within (now s) n 104 ⌝ }
     ensures { λ r. ⌜ r ≡ Spec.lowerOf low (Spec.shownBy At.factor (now (s .entry)) n) ⌝ }
 {
-    let x = number_in(s, n);
+    let x = number_at(s, n);
     with_number(low, exceeds_limit(x), !((0.0 <= x) & (x <= 1.0)), 4)
 }
 
@@ -144,15 +116,15 @@ fn end_of(low: u32, s: &[u8], n: u32, start: u32) -> u32
     requires { ⌜ Spec.Within (now s) n 104 × (0 < start) × (start ≤ 104) ⌝ }
     ensures { λ r. ⌜ r ≡ Spec.lowerOf low (Spec.shownBy (At.endOf start) (now (s .entry)) n) ⌝ }
 {
-    let x = number_in(s, n);
-    with_number(low, exceeds_limit(x), x < number_in(s, start), 4)
+    let x = number_at(s, n);
+    with_number(low, exceeds_limit(x), x < number_at(s, start), 4)
 }
 
 fn points_per_second(low: u32, s: &[u8], n: u32) -> u32
     requires { ⌜ Spec.Within (now s) n 104 ⌝ }
     ensures { λ r. ⌜ r ≡ Spec.lowerOf low (Spec.shownBy At.pointsPerSecond (now (s .entry)) n) ⌝ }
 {
-    let x = number_in(s, n);
+    let x = number_at(s, n);
     with_number(low, exceeds_unless_infinity(x), !(0.0 < x), 5)
 }
 
@@ -160,7 +132,7 @@ fn decay_time(low: u32, s: &[u8], n: u32) -> u32
     requires { ⌜ Spec.Within (now s) n 104 ⌝ }
     ensures { λ r. ⌜ r ≡ Spec.lowerOf low (Spec.shownBy (At.bounded At.number At.decayTime) (now (s .entry)) n) ⌝ }
 {
-    let x = number_in(s, n);
+    let x = number_at(s, n);
     with_number(low, exceeds_limit(x), is_decay_time_outside(x), 5)
 }
 
@@ -168,7 +140,7 @@ fn stop_distance(low: u32, s: &[u8], n: u32) -> u32
     requires { ⌜ Spec.Within (now s) n 104 ⌝ }
     ensures { λ r. ⌜ r ≡ Spec.lowerOf low (Spec.shownBy (At.bounded At.number At.stopDistance) (now (s .entry)) n) ⌝ }
 {
-    let x = number_in(s, n);
+    let x = number_at(s, n);
     with_number(low, exceeds_limit(x), x < 0.0, 5)
 }
 
@@ -233,7 +205,8 @@ fn maybe_plain(low: u32, s: &[u8], n: u32) -> u32
     ensures { λ r. ⌜ r ≡ Spec.sweepRows (now (s .entry)) n (At.flag ∷ At.optionAt n (At.plain ∷ [])) low ⌝ }
 {
     let own = flag(low, s, n);
-    if is_on(s, n) {
+    let has_number = flag_at(s, n);
+    if has_number {
         return plain(own, s, n + 1);
     }
     own
@@ -244,7 +217,8 @@ fn maybe_plains(low: u32, s: &[u8], n: u32) -> u32
     ensures { λ r. ⌜ r ≡ Spec.sweepRows (now (s .entry)) n (At.flag ∷ At.optionAt n (Spec.pairOf At.plain)) low ⌝ }
 {
     let own = flag(low, s, n);
-    if is_on(s, n) {
+    let has_pair = flag_at(s, n);
+    if has_pair {
         return plains(own, s, n + 1);
     }
     own
@@ -255,7 +229,8 @@ fn maybe_rect(low: u32, s: &[u8], n: u32) -> u32
     ensures { λ r. ⌜ r ≡ Spec.sweepRows (now (s .entry)) n (At.flag ∷ At.optionAt n (At.rectAt (n + 1))) low ⌝ }
 {
     let own = flag(low, s, n);
-    if is_on(s, n) {
+    let has_rect = flag_at(s, n);
+    if has_rect {
         return rect(own, s, n + 1);
     }
     own
@@ -266,7 +241,8 @@ fn maybe_target(low: u32, s: &[u8], n: u32) -> u32
     ensures { λ r. ⌜ r ≡ Spec.sweepRows (now (s .entry)) n (At.targetAt n) low ⌝ }
 {
     let own = flag(low, s, n);
-    if is_on(s, n) {
+    let has_target = flag_at(s, n);
+    if has_target {
         return target(own, s, n);
     }
     own

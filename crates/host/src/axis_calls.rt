@@ -3,7 +3,7 @@ ghost use mathlib.Core.Path.{_≡_};
 ghost use mathlib.Core.List.{[], _∷_};
 ghost use Rattle.words.specs.Words.{bytesOf};
 ghost use Rattle.axis.specs.Call.{dragCallOf, stepCallOf, wheelCallOf};
-ghost use Rattle.area.specs.Frame.{wordNo, numberNo, flagNo};
+ghost use Rattle.area.specs.Frame.{Holds, wordNo, numberNo, flagNo};
 ghost use Rattle.host.specs.Record.{numberWord, flagWord};
 ghost use Rattle.host.specs.Calls as Spec;
 use crate::read::is_no_flag;
@@ -25,6 +25,7 @@ use numbers::bits_of_f32;
 
 // The words that begin each call.
 fn axis_of(call: &[u8]) -> AxisPhysics
+    requires { ⌜ Holds (now call) 1 5 ⌝ }
     ensures { λ r. ⌜ r ≡ Spec.axisOf (now (call .entry)) ⌝ }
 {
     AxisPhysics {

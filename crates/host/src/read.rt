@@ -1,6 +1,6 @@
 // A state from the bytes of its record. Words are numbered from 1, as a frame's are.
 ghost use mathlib.Core.Path.{_≡_};
-ghost use Prim.Native.Nat.{_≤_};
+ghost use Rattle.area.specs.Frame.{Holds};
 ghost use Rattle.host.specs.Record as Spec;
 use area::MaybePress;
 use area::MaybeTarget;
@@ -35,7 +35,7 @@ pub fn state_of(s: &[u8; 148]) -> State
 }
 
 fn maybe_target_at(s: &[u8; 148], n: u32) -> MaybeTarget
-    requires { ⌜ n ≤ 40 ⌝ }
+    requires { ⌜ Holds (now s) n 5 ⌝ }
     ensures { λ r. ⌜ r ≡ Spec.maybeTargetNo (now (s .entry)) n ⌝ }
 {
     if flag_at(s, n) {
@@ -49,7 +49,7 @@ fn maybe_target_at(s: &[u8; 148], n: u32) -> MaybeTarget
 }
 
 fn offset_target_at(s: &[u8; 148], n: u32) -> OffsetTarget
-    requires { ⌜ n ≤ 40 ⌝ }
+    requires { ⌜ Holds (now s) n 5 ⌝ }
     ensures { λ r. ⌜ r ≡ Spec.offsetTargetNo (now (s .entry)) n ⌝ }
 {
     OffsetTarget {
@@ -58,7 +58,7 @@ fn offset_target_at(s: &[u8; 148], n: u32) -> OffsetTarget
 }
 
 fn maybe_press_at(s: &[u8; 148], n: u32) -> MaybePress
-    requires { ⌜ n ≤ 40 ⌝ }
+    requires { ⌜ Holds (now s) n 1 ⌝ }
     ensures { λ r. ⌜ r ≡ Spec.maybePressNo (now (s .entry)) n ⌝ }
 {
     if flag_at(s, n) {
@@ -68,7 +68,7 @@ fn maybe_press_at(s: &[u8; 148], n: u32) -> MaybePress
 }
 
 fn start_offset_at(s: &[u8; 148], n: u32) -> StartOffset
-    requires { ⌜ n ≤ 40 ⌝ }
+    requires { ⌜ Holds (now s) n 1 ⌝ }
     ensures { λ r. ⌜ r ≡ Spec.startOffsetNo (now (s .entry)) n ⌝ }
 {
     StartOffset {
@@ -77,6 +77,7 @@ fn start_offset_at(s: &[u8; 148], n: u32) -> StartOffset
 }
 
 pub fn is_no_flag(s: &[u8], n: u32) -> bool
+    requires { ⌜ Holds (now s) n 0 ⌝ }
     ensures { λ r. ⌜ r ≡ Spec.isNoFlag (now (s .entry)) n ⌝ }
 {
     1 < word_at(s, n)

@@ -1,5 +1,6 @@
 use borrow.Author.Needs.{needs}
 use Rattle.area.specs.Call.{callOf}
+use Rattle.area.proofs.CallLaws.{whole-of}
 use Rattle.area.proofs.call.frame_call.Statement.{statement}
 use Rattle.area.proofs.call.frame_call.Tie as tie
 
@@ -7,7 +8,9 @@ refusal-of-requires : tie.Need-refusal-of-requires
 refusal-of-requires c κs = search needs
 
 frame-of-requires : tie.Need-frame-of-requires
-frame-of-requires c κs = search needs
+frame-of-requires c κs =
+    let start = c .before .before .before in
+    whole-of (start .args .state) (start .args .bytes .now) _ (c .before .refusal-of .ensures) (c .if1 .taken)
 
 run-requires : tie.Need-run-requires
 run-requires c κs = search needs

@@ -52,13 +52,13 @@ pair-at-requires-5 : tie.Need-pair-at-requires-5
 pair-at-requires-5 c κs = search needs
 
 pair-at-requires-6 : tie.Need-pair-at-requires-6
-pair-at-requires-6 c κs = search needs
+pair-at-requires-6 c κs = search (needs, c .before .before .before .before .before .before .before .before .before .before .before .before .before .before .before .before .before .pre)
 
 bar-response-at-requires : tie.Need-bar-response-at-requires
-bar-response-at-requires c κs = search needs
+bar-response-at-requires c κs = search (needs, c .before .before .before .before .before .before .before .before .before .before .before .before .before .before .before .before .before .before .pre)
 
 bar-response-at-requires-2 : tie.Need-bar-response-at-requires-2
-bar-response-at-requires-2 c κs = search needs
+bar-response-at-requires-2 c κs = search (needs, c .before .before .before .before .before .before .before .before .before .before .before .before .before .before .before .before .before .before .before .pre)
 
 returns : tie.Need-returns
 unfolding hostOf

@@ -5,8 +5,8 @@ use Rattle.area.proofs.SweepLaws.{or-false}
 use Rattle.area.proofs.sweep.decay_time.Statement.{statement}
 use Rattle.area.proofs.sweep.decay_time.Tie as tie
 
-number-in-requires : tie.Need-number-in-requires
-number-in-requires c κs = search needs
+number-at-requires : tie.Need-number-at-requires
+number-at-requires c κs = search needs
 
 exceeds-limit-requires : tie.Need-exceeds-limit-requires
 exceeds-limit-requires c κs = search needs
@@ -19,13 +19,13 @@ with-number-requires c κs = search needs
 
 returns : tie.Need-returns
 unfolding shownBy isHeeded isShown shows2 shows3 shows4 shows5
-returns c = rw (← c .before .before .before .number-in .ensures, ← c .before .before .exceeds-limit .ensures, ← c .before .is-decay-time-outside .ensures) (simp or-false (rw (← c .with-number .ensures)))
+returns c = rw (← c .before .before .before .number-at .ensures, ← c .before .before .exceeds-limit .ensures, ← c .before .is-decay-time-outside .ensures) (simp or-false (rw (← c .with-number .ensures)))
 
 pub decay-time-spec : {M : Type 1} → statement M
 decay-time-spec =
     tie.close
     (tie.spec
-    number-in-requires
+    number-at-requires
     exceeds-limit-requires
     is-decay-time-outside-requires
     with-number-requires

@@ -7,14 +7,14 @@ use Rattle.area.proofs.SweepLaws.{or-false}
 use Rattle.area.proofs.sweep.end_of.Statement.{statement}
 use Rattle.area.proofs.sweep.end_of.Tie as tie
 
-number-in-requires : tie.Need-number-in-requires
-number-in-requires c κs = search needs
+number-at-requires : tie.Need-number-at-requires
+number-at-requires c κs = search needs
 
 exceeds-limit-requires : tie.Need-exceeds-limit-requires
 exceeds-limit-requires c κs = search needs
 
-number-in-requires-2 : tie.Need-number-in-requires-2
-number-in-requires-2 c κs = search needs
+number-at-requires-2 : tie.Need-number-at-requires-2
+number-at-requires-2 c κs = search needs
 
 with-number-requires : tie.Need-with-number-requires
 with-number-requires c κs = search needs
@@ -24,14 +24,14 @@ unfolding shownBy isHeeded isShown shows2 shows3 shows4 shows5
 returns c =
     let start = c .before .before .before .before .before .args .start in
     let some = ne-eqb start 0 (λ z. omega (arith, z)) in
-    rw (← c .before .before .before .number-in .ensures, ← c .before .before .exceeds-limit .ensures, ← c .before .number-in2 .ensures, some) (simp or-false (rw (← c .with-number .ensures)))
+    rw (← c .before .before .before .number-at .ensures, ← c .before .before .exceeds-limit .ensures, ← c .before .number-at2 .ensures, some) (simp or-false (rw (← c .with-number .ensures)))
 
 pub end-of-spec : {M : Type 1} → statement M
 end-of-spec =
     tie.close
     (tie.spec
-    number-in-requires
+    number-at-requires
     exceeds-limit-requires
-    number-in-requires-2
+    number-at-requires-2
     with-number-requires
     returns)

@@ -5,8 +5,8 @@ use Rattle.area.proofs.SweepLaws.{or-false}
 use Rattle.area.proofs.sweep.factor.Statement.{statement}
 use Rattle.area.proofs.sweep.factor.Tie as tie
 
-number-in-requires : tie.Need-number-in-requires
-number-in-requires c κs = search needs
+number-at-requires : tie.Need-number-at-requires
+number-at-requires c κs = search needs
 
 exceeds-limit-requires : tie.Need-exceeds-limit-requires
 exceeds-limit-requires c κs = search needs
@@ -16,8 +16,8 @@ with-number-requires c κs = search needs
 
 returns : tie.Need-returns
 unfolding shownBy isHeeded isShown shows2 shows3 shows4 shows5
-returns c = rw (← c .before .before .number-in .ensures, ← c .before .exceeds-limit .ensures) (simp or-false (rw (← c .with-number .ensures)))
+returns c = rw (← c .before .before .number-at .ensures, ← c .before .exceeds-limit .ensures) (simp or-false (rw (← c .with-number .ensures)))
 
 pub factor-spec : {M : Type 1} → statement M
 factor-spec =
-    tie.close (tie.spec number-in-requires exceeds-limit-requires with-number-requires returns)
+    tie.close (tie.spec number-at-requires exceeds-limit-requires with-number-requires returns)

@@ -12,8 +12,8 @@ use Rattle.area.proofs.sweep.maybe_plains.Tie as tie
 flag-requires : tie.Need-flag-requires
 flag-requires c κs = search needs
 
-is-on-requires : tie.Need-is-on-requires
-is-on-requires c κs = search needs
+flag-at-requires : tie.Need-flag-at-requires
+flag-at-requires c κs = search needs
 
 add-plains : tie.Need-add-plains
 add-plains c = search needs
@@ -25,15 +25,15 @@ returns : tie.Need-returns
 unfolding isHeeded sweepRows
 returns c =
     let a = c .before .before .before .before .before .args in
-    let on = sym (c .before .before .is-on .ensures) ∙ c .before .if1 .taken in
+    let on = sym (c .before .before .flag-at .ensures) ∙ c .before .if1 .taken in
     with-on (a .s .now) (a .n) (pairOf plain) (a .low) _ _ (c .before .before .before .flag .ensures) on refl (c .plains .ensures)
 
 returns-2 : tie.Need-returns-2
 returns-2 c =
     let a = c .before .before .before .before .args in
-    let off = sym (c .before .is-on .ensures) ∙ c .if1 .left in
+    let off = sym (c .before .flag-at .ensures) ∙ c .if1 .left in
     with-off (a .s .now) (a .n) (pairOf plain) (a .low) _ (c .before .before .flag .ensures) (omega arith) off
 
 pub maybe-plains-spec : {M : Type 1} → statement M
 maybe-plains-spec =
-    tie.close (tie.spec flag-requires is-on-requires add-plains plains-requires returns returns-2)
+    tie.close (tie.spec flag-requires flag-at-requires add-plains plains-requires returns returns-2)

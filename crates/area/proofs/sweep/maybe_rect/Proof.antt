@@ -12,8 +12,8 @@ use Rattle.area.proofs.sweep.maybe_rect.Tie as tie
 flag-requires : tie.Need-flag-requires
 flag-requires c κs = search needs
 
-is-on-requires : tie.Need-is-on-requires
-is-on-requires c κs = search needs
+flag-at-requires : tie.Need-flag-at-requires
+flag-at-requires c κs = search needs
 
 add-rect : tie.Need-add-rect
 add-rect c = search needs
@@ -25,15 +25,15 @@ returns : tie.Need-returns
 unfolding isHeeded sweepRows
 returns c =
     let a = c .before .before .before .before .before .args in
-    let on = sym (c .before .before .is-on .ensures) ∙ c .before .if1 .taken in
+    let on = sym (c .before .before .flag-at .ensures) ∙ c .before .if1 .taken in
     with-on (a .s .now) (a .n) (rectAt (a .n + 1)) (a .low) _ _ (c .before .before .before .flag .ensures) on refl (c .rect .ensures)
 
 returns-2 : tie.Need-returns-2
 returns-2 c =
     let a = c .before .before .before .before .args in
-    let off = sym (c .before .is-on .ensures) ∙ c .if1 .left in
+    let off = sym (c .before .flag-at .ensures) ∙ c .if1 .left in
     with-off (a .s .now) (a .n) (rectAt (a .n + 1)) (a .low) _ (c .before .before .flag .ensures) (omega arith) off
 
 pub maybe-rect-spec : {M : Type 1} → statement M
 maybe-rect-spec =
-    tie.close (tie.spec flag-requires is-on-requires add-rect rect-requires returns returns-2)
+    tie.close (tie.spec flag-requires flag-at-requires add-rect rect-requires returns returns-2)

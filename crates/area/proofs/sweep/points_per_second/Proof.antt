@@ -5,8 +5,8 @@ use Rattle.area.proofs.SweepLaws.{or-false}
 use Rattle.area.proofs.sweep.points_per_second.Statement.{statement}
 use Rattle.area.proofs.sweep.points_per_second.Tie as tie
 
-number-in-requires : tie.Need-number-in-requires
-number-in-requires c κs = search needs
+number-at-requires : tie.Need-number-at-requires
+number-at-requires c κs = search needs
 
 exceeds-unless-infinity-requires : tie.Need-exceeds-unless-infinity-requires
 exceeds-unless-infinity-requires c κs = search needs
@@ -16,9 +16,9 @@ with-number-requires c κs = search needs
 
 returns : tie.Need-returns
 unfolding shownBy isHeeded isShown shows2 shows3 shows4 shows5
-returns c = rw (← c .before .before .number-in .ensures, ← c .before .exceeds-unless-infinity .ensures) (simp or-false (rw (← c .with-number .ensures)))
+returns c = rw (← c .before .before .number-at .ensures, ← c .before .exceeds-unless-infinity .ensures) (simp or-false (rw (← c .with-number .ensures)))
 
 pub points-per-second-spec : {M : Type 1} → statement M
 points-per-second-spec =
     tie.close
-    (tie.spec number-in-requires exceeds-unless-infinity-requires with-number-requires returns)
+    (tie.spec number-at-requires exceeds-unless-infinity-requires with-number-requires returns)
