@@ -16,6 +16,7 @@ use Rattle.area.specs.State.{clampedTo, clampedOffset}
 use Rattle.area.specs.Layout as At
 use Rattle.area.specs.Frame.{wordNo, flagNo, flagsNo, settingsOf, frameOf}
 use Rattle.area.specs.Geometry.{pickOf}
+use Rattle.area.specs.Drive.{beforeOf}
 use Rattle.area.specs.Begin.{axisBegunOf, preparedOf, beginOf}
 use Rattle.area.specs.Adjust.{adjustedOf}
 use Rattle.area.specs.WheelTurn.{turnedOf}
@@ -29,6 +30,7 @@ use Rattle.area.specs.PutOut.{nextState}
 use Rattle.area.specs.Steps.{begunAt, endedAt, stepAt, isAccepted}
 use Rattle.area.specs.Moved.{endedOn, extentOn, isSomePos2, isDragHeeded, isPressHeeded, isMovedIn, isMoved}
 use Rattle.area.specs.Lists.{maximumOffset, listEnd, IsOnEnd}
+use Rattle.area.specs.declared.prepared.AxisBefore.{AxisBefore}
 use Rattle.area.specs.declared.frame.Frame.{Frame}
 use Rattle.area.specs.declared.frame.BarResponse.{BarResponse}
 use Rattle.area.specs.declared.frame.MaybePos2.{MaybePos2}
@@ -142,49 +144,49 @@ settled-at-end m rubberBanding maxOffset false adjusted n p q h = absurd (false�
 abbrev IsEndedAtEnd : Float → AxisEnded → Type 0
 IsEndedAtEnd maxOffset z = IsAtEnd maxOffset (z .offset) (z .«scroll_stuck_to_end»)
 
-finished-at-end : (f : Frame) (s : State) (d e : ℕ) (x : Extents) (adjusted : Adjusted) (turned : Turned)
+finished-at-end : (f : Frame) (d e : ℕ) (before : AxisBefore) (x : Extents) (adjusted : Adjusted) (turned : Turned)
     → isFinite (x .this .«max_offset») ≡ true → flag (f .settings .«stick_to_end») d ≡ true → turned .motion .«scroll_stuck_to_end» ≡ true
-    → finishedOf f s d e x adjusted turned .«had_explicit_scroll_adjustment» ≡ false
-    → isPressHeeded f d (finishedOf f s d e x adjusted turned .«show_scroll») ≡ false
-    → IsEndedAtEnd (x .this .«max_offset») (finishedOf f s d e x adjusted turned)
+    → finishedOf f d e before x adjusted turned .«had_explicit_scroll_adjustment» ≡ false
+    → isPressHeeded f d (finishedOf f d e before x adjusted turned .«show_scroll») ≡ false
+    → IsEndedAtEnd (x .this .«max_offset») (finishedOf f d e before x adjusted turned)
 unfolding finishedOf endedBy
-finished-at-end f s d e x adjusted turned n st k a h =
+finished-at-end f d e before x adjusted turned n st k a h =
     let maxOffset = x .this .«max_offset» in
     let stick = flag (f .settings .«stick_to_end») d in
     let explicit = adjusted .«had_explicit_scroll_adjustment» in
-    let motion = barredStage f s d e x adjusted turned .motion in
+    let motion = barredStage f d e before x adjusted turned .motion in
     let on-it = stick-offset (turned .motion) stick explicit maxOffset st k a in
     settled-at-end motion (turned .«rubber_banding») maxOffset stick explicit n st a
     (subst (λ (o : Float). IsLeft (motion .offset) o maxOffset) on-it
-    (bar-leaves f d e x (showStage f s d e x adjusted turned) (turned .«rubber_banding») _ (stuckStage f s d e x adjusted turned) h))
+    (bar-leaves f d e x (showStage f d e before x adjusted turned) (turned .«rubber_banding») _ (stuckStage f d e before x adjusted turned) h))
 
-ended-at-end : (f : Frame) (s : State) (d e : ℕ) (space : AxisSpace) (x : Extents) (wheel : WheelHeard) (b : AxisBegun)
+ended-at-end : (f : Frame) (d e : ℕ) (before : AxisBefore) (space : AxisSpace) (x : Extents) (wheel : WheelHeard) (b : AxisBegun)
     → isFinite (x .this .«max_offset») ≡ true → flag (f .settings .«stick_to_end») d ≡ true → BegunStuck b
-    → axisEndedOf f s d e space x wheel b .consumed ≡ false → axisEndedOf f s d e space x wheel b .«had_explicit_scroll_adjustment» ≡ false
-    → isPressHeeded f d (axisEndedOf f s d e space x wheel b .«show_scroll») ≡ false
-    → IsEndedAtEnd (x .this .«max_offset») (axisEndedOf f s d e space x wheel b)
+    → axisEndedOf f d e before space x wheel b .consumed ≡ false → axisEndedOf f d e before space x wheel b .«had_explicit_scroll_adjustment» ≡ false
+    → isPressHeeded f d (axisEndedOf f d e before space x wheel b .«show_scroll») ≡ false
+    → IsEndedAtEnd (x .this .«max_offset») (axisEndedOf f d e before space x wheel b)
 unfolding axisEndedOf finishedOf endedBy
-ended-at-end f s d e space x wheel b n st k c a h =
+ended-at-end f d e before space x wheel b n st k c a h =
     let adjusted = adjustedOf f d space (b .motion) in
-    let turned = turnedOf f s d space (x .this) wheel (adjusted .motion) (b .«rubber_banding») in
-    finished-at-end f s d e x adjusted turned n st
-    (turned-stuck f s d space (x .this) wheel (adjusted .motion) (b .«rubber_banding») (adjustment-stuck f d space (b .motion) k) c) a h
+    let turned = turnedOf f d before space (x .this) wheel (adjusted .motion) (b .«rubber_banding») in
+    finished-at-end f d e before x adjusted turned n st
+    (turned-stuck f d before space (x .this) wheel (adjusted .motion) (b .«rubber_banding») (adjustment-stuck f d space (b .motion) k) c) a h
 
 -- and through `begin` before it
 unmoved-at-end : (f : Frame) (s : State) (d e : ℕ) (space : AxisSpace) (x : Extents) (wheel : WheelHeard) (p : Prepared)
     → (innerSize : Float) (hold : Bool)
     → isFinite (x .this .«max_offset») ≡ true → flag (f .settings .«stick_to_end») d ≡ true → flag (s .«scroll_stuck_to_end») d ≡ true
-    → isMovedIn f p d (axisEndedOf f s d e space x wheel (axisBegunOf f s d innerSize (p .«has_background_drag») hold)) ≡ false
-    → IsEndedAtEnd (x .this .«max_offset») (axisEndedOf f s d e space x wheel (axisBegunOf f s d innerSize (p .«has_background_drag») hold))
+    → isMovedIn f p d (axisEndedOf f d e (beforeOf s d) space x wheel (axisBegunOf f s d innerSize (p .«has_background_drag») hold)) ≡ false
+    → IsEndedAtEnd (x .this .«max_offset») (axisEndedOf f d e (beforeOf s d) space x wheel (axisBegunOf f s d innerSize (p .«has_background_drag») hold))
 unfolding isMovedIn isDragHeeded
 unmoved-at-end f s d e space x wheel p innerSize hold n st k h =
     let b = axisBegunOf f s d innerSize (p .«has_background_drag») hold in
-    let z = axisEndedOf f s d e space x wheel b in
+    let z = axisEndedOf f d e (beforeOf s d) space x wheel b in
     let press = isPressHeeded f d (z .«show_scroll») in
     let adjusted = z .«had_explicit_scroll_adjustment» in
     let not-taken = not-right (isDragHeeded f p d) (z .consumed || (adjusted || press)) h in
     let not-adjusted = not-right (z .consumed) (adjusted || press) not-taken in
-    ended-at-end f s d e space x wheel b n st
+    ended-at-end f d e (beforeOf s d) space x wheel b n st
     (begun-stuck f s d innerSize (p .«has_background_drag») hold (not-left (isDragHeeded f p d) (z .consumed || (adjusted || press)) h) k)
     (not-left (z .consumed) (adjusted || press) not-taken)
     (not-left adjusted press not-adjusted)

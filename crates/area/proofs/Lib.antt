@@ -1,4 +1,5 @@
 pub mod TestLaws
+pub mod PairLaws
 pub mod SweepLaws
 pub mod OrderLaws
 pub mod CallLaws

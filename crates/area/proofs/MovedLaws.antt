@@ -32,6 +32,7 @@ use Rattle.area.specs.Bar.{noResponse}
 use Rattle.area.specs.End.{endedBy, finishedOf, axisEndedOf, endOf}
 use Rattle.area.specs.Steps.{begunAt, endedAt}
 use Rattle.area.specs.Moved.{wordOn, isOtherThanZero, isMovedByWords, isSomePos2, isDragHeeded, isPressHeeded, isMovedIn, isMoved}
+use Rattle.area.specs.declared.prepared.AxisBefore.{AxisBefore}
 use Rattle.area.specs.declared.frame.Frame.{Frame}
 use Rattle.area.specs.declared.frame.MaybePos2.{MaybePos2}
 use Rattle.area.specs.declared.frame.MaybeScrollTarget.{MaybeScrollTarget}
@@ -110,15 +111,15 @@ quiet-turn f d always q =
     equals-zero _
     (neg-zero _ (mul-zero binary32 _ _ (picked-zero always _ _ (add-zeros binary32 _ _ (q .wheel-x) (q .wheel-y)) (q .wheel)) (q .multiplier)))
 
-quiet-untaken : (f : Frame) (s : State) (d : ℕ) (space : AxisSpace) (extent : AxisExtent) (wheel : WheelHeard) (m : AxisMotion) (rubberBanding : Bool)
+quiet-untaken : (f : Frame) (d : ℕ) (before : AxisBefore) (space : AxisSpace) (extent : AxisExtent) (wheel : WheelHeard) (m : AxisMotion) (rubberBanding : Bool)
     → IsQuiet f d
-    → Untaken (turnedOf f s d space extent wheel m rubberBanding)
+    → Untaken (turnedOf f d before space extent wheel m rubberBanding)
 unfolding turnedOf
-quiet-untaken f s d space extent wheel m rubberBanding q =
-    let bounced = flag (s .«bounced_this_momentum») d in
+quiet-untaken f d before space extent wheel m rubberBanding q =
+    let bounced = before .«bounced_this_momentum» in
     let always = wheel .«always_scroll_enabled_direction» in
     either Untaken (wheel .heard && flag (f .settings .«direction_enabled») d)
-    (turnedBy (wheelPhysicsOf f s d space extent) (wheelScrollOf f d always) m rubberBanding bounced)
+    (turnedBy (wheelPhysicsOf f d before space extent) (wheelScrollOf f d always) m rubberBanding bounced)
     (unheard m rubberBanding bounced)
     (turn-untaken _ (wheelScrollOf f d always) m rubberBanding bounced (quiet-turn f d always q))
     refl
@@ -143,12 +144,12 @@ quiet-unpressed f d showScroll q =
     let showFactor = showFactorOf showScroll (num (f .host .«bar_factors») d) (num (f .host .«opening_factors») d) in
     fails-right (not (eq showFactor F32.zero)) (isSomePos2 (getD (f .host .bars) d noResponse .press)) (q .unpressed)
 
-quiet-unmoved : (f : Frame) (s : State) (d e : ℕ) (space : AxisSpace) (x : Extents) (wheel : WheelHeard) (b : AxisBegun) (p : Prepared) → IsQuiet f d
-    → isMovedIn f p d (axisEndedOf f s d e space x wheel b) ≡ false
+quiet-unmoved : (f : Frame) (d e : ℕ) (before : AxisBefore) (space : AxisSpace) (x : Extents) (wheel : WheelHeard) (b : AxisBegun) (p : Prepared) → IsQuiet f d
+    → isMovedIn f p d (axisEndedOf f d e before space x wheel b) ≡ false
 unfolding isMovedIn axisEndedOf finishedOf endedBy
-quiet-unmoved f s d e space x wheel b p q =
+quiet-unmoved f d e before space x wheel b p q =
     neither _ _ (quiet-undragged f p d q)
-    (neither _ _ (quiet-untaken f s d space (x .this) wheel _ _ q) (neither _ _ (quiet-unadjusted f d space (b .motion) q) (quiet-unpressed f d _ q)))
+    (neither _ _ (quiet-untaken f d before space (x .this) wheel _ _ q) (neither _ _ (quiet-unadjusted f d space (b .motion) q) (quiet-unpressed f d _ q)))
 
 -- ---- what an accepted frame tells of a number: check 3 has not shown
 none-shows : (k : ℕ) (s : List ℕ) (n m : ℕ) → anyShows k s n ≡ false → m < n → showsNo k s (suc m) ≡ false
@@ -277,11 +278,11 @@ quiet-y bytes u n = record {
 -- ---- an accepted frame
 unmoved-x : (S : State) (bytes : List ℕ) → IsQuiet (frameOf bytes) 0 → isMoved S bytes 0 ≡ false
 unfolding isMoved endedAt endOf
-unmoved-x S bytes q = quiet-unmoved (frameOf bytes) S 0 1 _ _ _ _ (begunAt S bytes) q
+unmoved-x S bytes q = quiet-unmoved (frameOf bytes) 0 1 _ _ _ _ _ (begunAt S bytes) q
 
 unmoved-y : (S : State) (bytes : List ℕ) → IsQuiet (frameOf bytes) 1 → isMoved S bytes 1 ≡ false
 unfolding isMoved endedAt endOf
-unmoved-y S bytes q = quiet-unmoved (frameOf bytes) S 1 0 _ _ _ _ (begunAt S bytes) q
+unmoved-y S bytes q = quiet-unmoved (frameOf bytes) 1 0 _ _ _ _ _ (begunAt S bytes) q
 
 pub stays-by-words-x : StaysOnEnd (λ S. isMovedByWords) 0
 stays-by-words-x S bytes a st h k =

@@ -16,8 +16,8 @@ use Rattle.area.specs.Layout as At
 use Rattle.area.specs.Frame.{wordNo, flagNo, styleOf, frameOf}
 use Rattle.area.specs.Geometry.{pickOf}
 use Rattle.area.specs.AxisPhysics.{physicsOf}
-use Rattle.area.specs.Drive.{draggedOffset, draggedTo, leftAlone, draggedOf, steppedOf, drivenOf}
-use Rattle.area.specs.Begin.{lastPhysicsOf, drivenAt, axisBegunOf, preparedOf, beginOf}
+use Rattle.area.specs.Drive.{beforeOf, openedOf, draggedOffset, draggedTo, leftAlone, draggedOf, steppedOf, drivenOf}
+use Rattle.area.specs.Begin.{lastPhysicsOf, drivenFrom, begunFrom, axisBegunOf, preparedOf, beginOf}
 use Rattle.area.specs.WheelTurn.{wheelPhysicsOf, wheelScrollOf, taken, untaken, unheard, turnedBy, turnedOf}
 use Rattle.area.specs.Settle.{settleOf}
 use Rattle.area.specs.End.{endedBy, finishedOf, axisEndedOf, endOf}
@@ -25,6 +25,7 @@ use Rattle.area.specs.PutOut.{nextState}
 use Rattle.area.specs.Steps.{begunAt, endedAt, stepAt, isAccepted}
 use Rattle.area.specs.Moved.{endedOn, extentOn}
 use Rattle.area.specs.Lists.{maximumOffset, IsInRange}
+use Rattle.area.specs.declared.prepared.AxisBefore.{AxisBefore}
 use Rattle.area.specs.declared.frame.Frame.{Frame}
 use Rattle.area.specs.declared.state.State.{State}
 use Rattle.area.specs.declared.prepared.AxisMotion.{AxisMotion}
@@ -80,9 +81,9 @@ driven-unbanded m physics i off =
 
 begun-unbanded : (f : Frame) (s : State) (d : ℕ) (innerSize : Float) (backgroundDrag hold : Bool) → f .style .kinetic .«rubber_band» ≡ false
     → BegunUnbanded (axisBegunOf f s d innerSize backgroundDrag hold)
-unfolding axisBegunOf lastPhysicsOf
+unfolding begunFrom lastPhysicsOf
 begun-unbanded f s d innerSize backgroundDrag hold off =
-    followed-keeps (drivenAt f s d innerSize backgroundDrag hold) _ _ .«rubber_banding»
+    followed-keeps (drivenFrom f d (beforeOf s d) (openedOf (f .settings) s d) innerSize backgroundDrag hold) _ _ .«rubber_banding»
     ∙ driven-unbanded _ _ _ (physics-off (f .style .kinetic) _ _ _ _ off)
 
 -- the wheel
@@ -97,14 +98,14 @@ wheel-unbanded physics scroll m rubberBanding bounced off p =
     let r = wheelOf physics (m .offset) (m .vel) scroll bounced in
     either TurnedUnbanded (r .consumed) (taken physics r) (untaken m rubberBanding r) (unbanded physics (r .offset) off) p
 
-turned-unbanded : (f : Frame) (s : State) (d : ℕ) (space : AxisSpace) (extent : AxisExtent) (wheel : WheelHeard) (m : AxisMotion)
+turned-unbanded : (f : Frame) (d : ℕ) (before : AxisBefore) (space : AxisSpace) (extent : AxisExtent) (wheel : WheelHeard) (m : AxisMotion)
     → (rubberBanding : Bool) → f .style .kinetic .«rubber_band» ≡ false → rubberBanding ≡ false
-    → TurnedUnbanded (turnedOf f s d space extent wheel m rubberBanding)
+    → TurnedUnbanded (turnedOf f d before space extent wheel m rubberBanding)
 unfolding turnedOf wheelPhysicsOf
-turned-unbanded f s d space extent wheel m rubberBanding off p =
-    let bounced = flag (s .«bounced_this_momentum») d in
+turned-unbanded f d before space extent wheel m rubberBanding off p =
+    let bounced = before .«bounced_this_momentum» in
     either TurnedUnbanded (wheel .heard && flag (f .settings .«direction_enabled») d)
-    (turnedBy (wheelPhysicsOf f s d space extent) (wheelScrollOf f d (wheel .«always_scroll_enabled_direction»)) m rubberBanding bounced)
+    (turnedBy (wheelPhysicsOf f d before space extent) (wheelScrollOf f d (wheel .«always_scroll_enabled_direction»)) m rubberBanding bounced)
     (unheard m rubberBanding bounced)
     (wheel-unbanded _ _ m rubberBanding bounced (physics-off (f .style .kinetic) _ _ _ _ off) p)
     p
@@ -119,18 +120,18 @@ settled-within m true maxOffset stick adjusted p n q = absurd (true≢false p)
 settled-within m false maxOffset stick adjusted p n q = clamped-within (m .offset) maxOffset n q
 
 -- one axis through `end`
-finished-within : (f : Frame) (s : State) (d e : ℕ) (x : Extents) (adjusted : Adjusted) (turned : Turned) → TurnedUnbanded turned
+finished-within : (f : Frame) (d e : ℕ) (before : AxisBefore) (x : Extents) (adjusted : Adjusted) (turned : Turned) → TurnedUnbanded turned
     → isFinite (x .this .«max_offset») ≡ true
-    → isFinite (finishedOf f s d e x adjusted turned .offset) ≡ true → IsWithin (finishedOf f s d e x adjusted turned .offset) (x .this .«max_offset»)
+    → isFinite (finishedOf f d e before x adjusted turned .offset) ≡ true → IsWithin (finishedOf f d e before x adjusted turned .offset) (x .this .«max_offset»)
 unfolding finishedOf endedBy
-finished-within f s d e x adjusted turned p n q = settled-within _ (turned .«rubber_banding») (x .this .«max_offset») _ _ p n q
+finished-within f d e before x adjusted turned p n q = settled-within _ (turned .«rubber_banding») (x .this .«max_offset») _ _ p n q
 
-ended-within : (f : Frame) (s : State) (d e : ℕ) (space : AxisSpace) (x : Extents) (wheel : WheelHeard) (b : AxisBegun)
+ended-within : (f : Frame) (d e : ℕ) (before : AxisBefore) (space : AxisSpace) (x : Extents) (wheel : WheelHeard) (b : AxisBegun)
     → f .style .kinetic .«rubber_band» ≡ false → BegunUnbanded b
-    → isFinite (x .this .«max_offset») ≡ true → isFinite (axisEndedOf f s d e space x wheel b .offset) ≡ true
-    → IsWithin (axisEndedOf f s d e space x wheel b .offset) (x .this .«max_offset»)
+    → isFinite (x .this .«max_offset») ≡ true → isFinite (axisEndedOf f d e before space x wheel b .offset) ≡ true
+    → IsWithin (axisEndedOf f d e before space x wheel b .offset) (x .this .«max_offset»)
 unfolding axisEndedOf
-ended-within f s d e space x wheel b off p n q = finished-within f s d e x _ _ (turned-unbanded f s d space (x .this) wheel _ _ off p) n q
+ended-within f d e before space x wheel b off p n q = finished-within f d e before x _ _ (turned-unbanded f d before space (x .this) wheel _ _ off p) n q
 
 -- ---- an accepted frame
 
@@ -145,12 +146,12 @@ IsEndedWithin e d = IsWithin (endedOn e d .offset) (extentOn e d .«max_offset»
 within-x : (f : Frame) (s : State) → f .style .kinetic .«rubber_band» ≡ false → IsFiniteOn (endOf f s (beginOf f s)) 0
     → IsEndedWithin (endOf f s (beginOf f s)) 0
 unfolding endOf beginOf preparedOf
-within-x f s off n = ended-within f s 0 1 _ _ _ _ off (begun-unbanded f s 0 _ _ _ off) (n .maximum) (n .offset)
+within-x f s off n = ended-within f 0 1 _ _ _ _ _ off (begun-unbanded f s 0 _ _ _ off) (n .maximum) (n .offset)
 
 within-y : (f : Frame) (s : State) → f .style .kinetic .«rubber_band» ≡ false → IsFiniteOn (endOf f s (beginOf f s)) 1
     → IsEndedWithin (endOf f s (beginOf f s)) 1
 unfolding endOf beginOf preparedOf
-within-y f s off n = ended-within f s 1 0 _ _ _ _ off (begun-unbanded f s 1 _ _ _ off) (n .maximum) (n .offset)
+within-y f s off n = ended-within f 1 0 _ _ _ _ _ off (begun-unbanded f s 1 _ _ _ off) (n .maximum) (n .offset)
 
 pub in-range : (S : State) (bytes : List ℕ) → isAccepted (stepAt S bytes) ≡ true → wordNo bytes At.kineticRubberBand ≡ 0
     → IsInRange S bytes (stepAt S bytes) 0 × IsInRange S bytes (stepAt S bytes) 1

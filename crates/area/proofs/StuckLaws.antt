@@ -8,11 +8,12 @@ use Rattle.axis.specs.Wheel.{wheelOf}
 use Rattle.axis.specs.declared.physics.AxisPhysics.{AxisPhysics}
 use Rattle.axis.specs.declared.wheel.WheelScroll.{WheelScroll}
 use Rattle.area.specs.Pair.{flag}
-use Rattle.area.specs.Drive.{openedOf, draggedOffset, draggedTo, leftAlone, draggedOf, steppedOf, drivenOf}
+use Rattle.area.specs.Drive.{beforeOf, openedOf, draggedOffset, draggedTo, leftAlone, draggedOf, steppedOf, drivenOf}
 use Rattle.area.specs.Follow.{movedBy}
-use Rattle.area.specs.Begin.{inputOf, drivenAt, axisBegunOf}
+use Rattle.area.specs.Begin.{inputOf, drivenFrom, begunFrom, axisBegunOf}
 use Rattle.area.specs.Adjust as Adjust
 use Rattle.area.specs.WheelTurn.{wheelPhysicsOf, wheelScrollOf, taken, untaken, unheard, turnedBy, turnedOf}
+use Rattle.area.specs.declared.prepared.AxisBefore.{AxisBefore}
 use Rattle.area.specs.declared.frame.Frame.{Frame}
 use Rattle.area.specs.declared.state.State.{State}
 use Rattle.area.specs.declared.prepared.AxisMotion.{AxisMotion}
@@ -52,9 +53,9 @@ driven-stuck m physics i h k =
 pub begun-stuck : (f : Frame) (s : State) (d : ℕ) (innerSize : Float) (backgroundDrag hold : Bool)
     → ((backgroundDrag && f .host .dragged) && flag (f .settings .«direction_enabled») d) ≡ false → flag (s .«scroll_stuck_to_end») d ≡ true
     → BegunStuck (axisBegunOf f s d innerSize backgroundDrag hold)
-unfolding axisBegunOf inputOf openedOf
+unfolding begunFrom inputOf openedOf
 begun-stuck f s d innerSize backgroundDrag hold h k =
-    followed-keeps (drivenAt f s d innerSize backgroundDrag hold) _ _ .stuck
+    followed-keeps (drivenFrom f d (beforeOf s d) (openedOf (f .settings) s d) innerSize backgroundDrag hold) _ _ .stuck
     ∙ driven-stuck (openedOf (f .settings) s d) _ (inputOf f d backgroundDrag hold) h k
 
 -- ---- targets, deltas, and a wheel that is not taken, leave it stuck
@@ -88,13 +89,13 @@ wheel-stuck physics scroll m rubberBanding bounced k =
     let r = wheelOf physics (m .offset) (m .vel) scroll bounced in
     either StuckIfUntaken (r .consumed) (taken physics r) (untaken m rubberBanding r) (λ h. absurd (true≢false h)) (λ h. k)
 
-pub turned-stuck : (f : Frame) (s : State) (d : ℕ) (space : AxisSpace) (extent : AxisExtent) (wheel : WheelHeard) (m : AxisMotion)
-    → (rubberBanding : Bool) → m .«scroll_stuck_to_end» ≡ true → StuckIfUntaken (turnedOf f s d space extent wheel m rubberBanding)
+pub turned-stuck : (f : Frame) (d : ℕ) (before : AxisBefore) (space : AxisSpace) (extent : AxisExtent) (wheel : WheelHeard) (m : AxisMotion)
+    → (rubberBanding : Bool) → m .«scroll_stuck_to_end» ≡ true → StuckIfUntaken (turnedOf f d before space extent wheel m rubberBanding)
 unfolding turnedOf
-turned-stuck f s d space extent wheel m rubberBanding k =
-    let bounced = flag (s .«bounced_this_momentum») d in
+turned-stuck f d before space extent wheel m rubberBanding k =
+    let bounced = before .«bounced_this_momentum» in
     either StuckIfUntaken (wheel .heard && flag (f .settings .«direction_enabled») d)
-    (turnedBy (wheelPhysicsOf f s d space extent) (wheelScrollOf f d (wheel .«always_scroll_enabled_direction»)) m rubberBanding bounced)
+    (turnedBy (wheelPhysicsOf f d before space extent) (wheelScrollOf f d (wheel .«always_scroll_enabled_direction»)) m rubberBanding bounced)
     (unheard m rubberBanding bounced)
     (wheel-stuck _ _ m rubberBanding bounced k)
     (λ h. k)

@@ -16,6 +16,8 @@ use Rattle.area.specs.declared.frame.Host.{Host}
 use Rattle.area.specs.declared.frame.Frame.{Frame}
 use Rattle.area.specs.declared.state.State.{State}
 use Rattle.area.specs.declared.prepared.AxisSpace.{AxisSpace}
+use Rattle.area.specs.declared.prepared.AxisMotion.{AxisMotion}
+use Rattle.area.specs.declared.prepared.AxisBefore.{AxisBefore}
 use Rattle.area.specs.declared.prepared.AxisBegun.{AxisBegun}
 use Rattle.area.specs.declared.prepared.Prepared.{Prepared}
 use Rattle.area.specs.declared.drive.AxisInput.{AxisInput}
@@ -23,7 +25,7 @@ use Rattle.area.specs.Pair.{num, flag}
 use Rattle.area.specs.Geometry.{rectContainsPointer, isRectStored}
 use Rattle.area.specs.AxisPhysics.{physicsOf}
 use Rattle.area.specs.Space.{spaceOf, innerRect}
-use Rattle.area.specs.Drive.{openedOf, drivenOf}
+use Rattle.area.specs.Drive.{openedOf, beforeOf, drivenOf}
 use Rattle.area.specs.Follow.{followedOf}
 
 -- 0.1
@@ -82,24 +84,27 @@ inputOf f d backgroundDrag hold = record {
 }
 
 -- axis_physics[d], by inner_size[d]: "Per axis. Bounds are from last frame."
-unfoldable pub lastPhysicsOf : Frame → State → ℕ → Float → AxisPhysics
-lastPhysicsOf f s d innerSize =
+unfoldable pub lastPhysicsOf : Frame → ℕ → AxisBefore → Float → AxisPhysics
+lastPhysicsOf f d before innerSize =
     physicsOf
     (f .style .kinetic)
     (flag (f .settings .«direction_enabled») d)
-    (flag (s .«content_is_too_large») d)
-    (num (s .«max_offset») d)
+    (before .«content_is_too_large»)
+    (before .«max_offset»)
     innerSize
 
--- the explicit offset, then drag or step
-abbrev pub drivenAt : Frame → State → ℕ → Float → Bool → Bool → AxisBegun
-drivenAt f s d innerSize backgroundDrag hold =
-    drivenOf (openedOf (f .settings) s d) (lastPhysicsOf f s d innerSize) (inputOf f d backgroundDrag hold)
+-- drag or step
+abbrev pub drivenFrom : Frame → ℕ → AxisBefore → AxisMotion → Float → Bool → Bool → AxisBegun
+drivenFrom f d before m innerSize backgroundDrag hold = drivenOf m (lastPhysicsOf f d before innerSize) (inputOf f d backgroundDrag hold)
 
--- one axis through `begin`: "A scroll target under way .. moves after drag or step"
-unfoldable pub axisBegunOf : Frame → State → ℕ → Float → Bool → Bool → AxisBegun
-axisBegunOf f s d innerSize backgroundDrag hold =
-    followedOf (drivenAt f s d innerSize backgroundDrag hold) (f .host .time) (dtOf (f .host .«stable_dt»))
+-- one axis through `begin`, from the motion that it opens with: "A scroll target under way .. moves after drag or step"
+unfoldable pub begunFrom : Frame → ℕ → AxisBefore → AxisMotion → Float → Bool → Bool → AxisBegun
+begunFrom f d before m innerSize backgroundDrag hold =
+    followedOf (drivenFrom f d before m innerSize backgroundDrag hold) (f .host .time) (dtOf (f .host .«stable_dt»))
+
+-- the explicit offset first
+abbrev pub axisBegunOf : Frame → State → ℕ → Float → Bool → Bool → AxisBegun
+axisBegunOf f s d innerSize backgroundDrag hold = begunFrom f d (beforeOf s d) (openedOf (f .settings) s d) innerSize backgroundDrag hold
 
 -- "let inner_rect", of a Prepared
 unfoldable pub innerRectOf : Prepared → Rect
@@ -128,4 +133,4 @@ preparedOf f s x y =
 
 -- ScrollArea::begin
 unfoldable pub beginOf : Frame → State → Prepared
-beginOf f s = preparedOf f s (spaceOf f s 0 1) (spaceOf f s 1 0)
+beginOf f s = preparedOf f s (spaceOf f (flag (s .«show_scroll») 1) 0 1) (spaceOf f (flag (s .«show_scroll») 0) 1 0)

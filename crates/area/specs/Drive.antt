@@ -14,10 +14,11 @@ use Rattle.area.specs.declared.frame.GivenOffset.{GivenOffset}
 use Rattle.area.specs.declared.frame.Settings.{Settings}
 use Rattle.area.specs.declared.state.State.{State}
 use Rattle.area.specs.declared.prepared.AxisMotion.{AxisMotion}
+use Rattle.area.specs.declared.prepared.AxisBefore.{AxisBefore}
 use Rattle.area.specs.declared.prepared.AxisBegun.{AxisBegun}
 use Rattle.area.specs.declared.drive.AxisInput.{AxisInput}
 use Rattle.area.specs.Pair.{num, flag}
-use Rattle.area.specs.State.{noTarget}
+use Rattle.area.specs.State.{noTarget, noPress}
 
 -- Option::unwrap_or
 abbrev pub unwrapOr : MaybeNumber → Float → Float
@@ -39,6 +40,15 @@ openedOf set s d = record {
   vel = num (s .vel) d;
   «offset_target» = getD (s .«offset_target») d noTarget;
   «scroll_stuck_to_end» = flag (s .«scroll_stuck_to_end») d;
+}
+
+-- what else the last frame left on axis d
+unfoldable pub beforeOf : State → ℕ → AxisBefore
+beforeOf s d = record {
+  «max_offset» = num (s .«max_offset») d;
+  «content_is_too_large» = flag (s .«content_is_too_large») d;
+  «bounced_this_momentum» = flag (s .«bounced_this_momentum») d;
+  press = getD (s .«scroll_start_offset_from_top_left») d noPress;
 }
 
 -- "state.offset[d] = physics.drag(state.offset[d], -pointer_delta[d])"

@@ -1,11 +1,10 @@
 -- Prepared::end: "targets and deltas, inner size by direction and shrink, too-large flags, wheel, bars, final clamp, stuck flags".
 use Prim.Native.Nat.{ℕ}
 use mathlib.Core.Bool.{Bool, _&&_, _||_}
-use lib.ListN.{getD}
 use Rattle.numbers.specs.declared.shape.Rect.{Rect}
 use Rattle.area.specs.Pair.{flag}
-use Rattle.area.specs.State.{noPress}
 use Rattle.area.specs.Geometry.{showsBar}
+use Rattle.area.specs.Drive.{beforeOf}
 use Rattle.area.specs.Adjust.{adjustedOf}
 use Rattle.area.specs.Extent.{extentOf}
 use Rattle.area.specs.WheelTurn.{heardOf, turnedOf}
@@ -16,6 +15,7 @@ use Rattle.area.specs.declared.state.State.{State}
 use Rattle.area.specs.declared.frame.Frame.{Frame}
 use Rattle.area.specs.declared.prepared.AxisSpace.{AxisSpace}
 use Rattle.area.specs.declared.prepared.AxisMotion.{AxisMotion}
+use Rattle.area.specs.declared.prepared.AxisBefore.{AxisBefore}
 use Rattle.area.specs.declared.prepared.AxisBegun.{AxisBegun}
 use Rattle.area.specs.declared.prepared.Prepared.{Prepared}
 use Rattle.area.specs.declared.adjust.Adjusted.{Adjusted}
@@ -41,7 +41,7 @@ barSpaceOf x = record {
 }
 
 -- ---- one axis, stage by stage, after targets, deltas and the wheel
-module _ (f : Frame) (s : State) (d e : ℕ) (x : Extents) (adjusted : Adjusted) (turned : Turned) where
+module _ (f : Frame) (d e : ℕ) (before : AxisBefore) (x : Extents) (adjusted : Adjusted) (turned : Turned) where
   -- show_scroll_this_frame[d]
   abbrev pub showStage : Bool
   showStage = showsBar (f .settings .«scroll_bar_visibility») (x .this .«content_is_too_large») (flag (f .settings .«direction_enabled») d)
@@ -50,7 +50,7 @@ module _ (f : Frame) (s : State) (d e : ℕ) (x : Extents) (adjusted : Adjusted)
   stuckStage = stickOf (turned .motion) (flag (f .settings .«stick_to_end») d) (adjusted .«had_explicit_scroll_adjustment») (x .this .«max_offset»)
 
   abbrev pub barredStage : Barred
-  barredStage = barOf f d e (barSpaceOf x) showStage (turned .«rubber_banding») (getD (s .«scroll_start_offset_from_top_left») d noPress) stuckStage
+  barredStage = barOf f d e (barSpaceOf x) showStage (turned .«rubber_banding») (before .press) stuckStage
 
   abbrev pub settledStage : Settled
   settledStage =
@@ -74,16 +74,16 @@ endedBy explicit turned show barred settled = record {
 }
 
 -- sticking, bars, final clamp, stuck flags
-unfoldable pub finishedOf : Frame → State → ℕ → ℕ → Extents → Adjusted → Turned → AxisEnded
-finishedOf f s d e x adjusted turned =
-    endedBy (adjusted .«had_explicit_scroll_adjustment») turned (showStage f s d e x adjusted turned) (barredStage f s d e x adjusted turned) (settledStage f s d e x adjusted turned)
+unfoldable pub finishedOf : Frame → ℕ → ℕ → AxisBefore → Extents → Adjusted → Turned → AxisEnded
+finishedOf f d e before x adjusted turned =
+    endedBy (adjusted .«had_explicit_scroll_adjustment») turned (showStage f d e before x adjusted turned) (barredStage f d e before x adjusted turned) (settledStage f d e before x adjusted turned)
 
 -- the whole of one axis
-unfoldable pub axisEndedOf : Frame → State → ℕ → ℕ → AxisSpace → Extents → WheelHeard → AxisBegun → AxisEnded
-axisEndedOf f s d e space x wheel b =
+unfoldable pub axisEndedOf : Frame → ℕ → ℕ → AxisBefore → AxisSpace → Extents → WheelHeard → AxisBegun → AxisEnded
+axisEndedOf f d e before space x wheel b =
     let adjusted = adjustedOf f d space (b .motion) in
-    let turned = turnedOf f s d space (x .this) wheel (adjusted .motion) (b .«rubber_banding») in
-    finishedOf f s d e x adjusted turned
+    let turned = turnedOf f d before space (x .this) wheel (adjusted .motion) (b .«rubber_banding») in
+    finishedOf f d e before x adjusted turned
 
 -- inner_rect, "At this point this is the available size for the inner rect", as shrunk there
 unfoldable pub shrunkRectOf : AxisExtent → AxisExtent → Rect
@@ -102,8 +102,8 @@ endOf f s p =
       «x_extent» = x;
       «y_extent» = y;
       wheel = wheel;
-      x = axisEndedOf f s 0 1 (p .«x_space») (record { this = x; other = y }) wheel (p .x);
-      y = axisEndedOf f s 1 0 (p .«y_space») (record { this = y; other = x }) wheel (p .y);
+      x = axisEndedOf f 0 1 (beforeOf s 0) (p .«x_space») (record { this = x; other = y }) wheel (p .x);
+      y = axisEndedOf f 1 0 (beforeOf s 1) (p .«y_space») (record { this = y; other = x }) wheel (p .y);
     }
 
 -- 7: "A new press .. lies outside the handle and the bar's start is not at or below the bar's end minus the handle's length"; either axis

@@ -1,6 +1,7 @@
 -- The frame that the words stand for. "pairs and points in order x, y; rectangles as min, max. An option is a flag, then its words,
 -- ignored if the flag is 0."
 use Prim.Native.Nat.{ℕ, _+_, _-_, _*_, _<_, _≤_}
+use mathlib.Core.Path.{_≡_}
 use mathlib.Core.Bool.{Bool, cond}
 use mathlib.Core.List.{List, [], _∷_}
 use lib.Dec.{eqb}
@@ -38,6 +39,10 @@ wordNo s n = wordAt s (n - 1)
 -- word n and the k words after it are all there; no frame or record has more than 200 words
 abbrev pub Holds : List ℕ → ℕ → ℕ → Type 0
 Holds s n k = (0 < n) × (n + k ≤ 200) × (4 * (n + k) ≤ length s)
+
+-- a frame's 104 words
+abbrev pub Whole : List ℕ → Type 0
+Whole s = length s ≡ 416
 
 unfoldable pub numberNo : List ℕ → ℕ → Float
 numberNo s n = ofBits binary32 (wordNo s n)

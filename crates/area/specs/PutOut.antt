@@ -31,10 +31,6 @@ nextState e = record {
   «bounced_this_momentum» = e .x .«bounced_this_momentum» ∷ e .y .«bounced_this_momentum» ∷ [];
 }
 
--- a pair of deltas, 0 on an axis where it was taken
-unfoldable pub deltaLeft : List Float → Bool → Bool → List Float
-deltaLeft delta xTaken yTaken = pickOf xTaken zero (num delta 0) ∷ pickOf yTaken zero (num delta 1) ∷ []
-
 -- end, "Clear scroll delta so no parent scroll will use it"
 unfoldable pub wheelDeltaLeft : Frame → Ended → List Float
 wheelDeltaLeft f e =

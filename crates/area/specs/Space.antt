@@ -8,7 +8,6 @@ use Rattle.numbers.specs.declared.range.Rangef.{Rangef}
 use Rattle.numbers.specs.declared.shape.Rect.{Rect}
 use Rattle.area.specs.declared.frame.Frame.{Frame}
 use Rattle.area.specs.declared.frame.Settings.{Settings}
-use Rattle.area.specs.declared.state.State.{State}
 use Rattle.area.specs.declared.prepared.AxisSpace.{AxisSpace}
 use Rattle.area.specs.Pair.{num, flag}
 use Rattle.area.specs.Geometry.{alongOf, showsBar}
@@ -26,14 +25,14 @@ unfoldable pub barUseOf : Bool → Float → Bool → Float → Float
 barUseOf floating allocatedWidth showBar showBarFactor =
     cond floating (floatingBarUse allocatedWidth showBar) (solidBarUse allocatedWidth showBarFactor)
 
--- show_bars[e]
-abbrev pub showBars : Settings → State → ℕ → Bool
-showBars set s e = showsBar (set .«scroll_bar_visibility») (flag (s .«show_scroll») e) (flag (set .«direction_enabled») e)
+-- show_bars[e], where state.show_scroll[e] is wasShown
+abbrev pub showBars : Settings → Bool → ℕ → Bool
+showBars set wasShown e = showsBar (set .«scroll_bar_visibility») wasShown (flag (set .«direction_enabled») e)
 
 -- current_bar_use[d], the .yx(): what the bar of axis e takes
-unfoldable pub currentBarUseOf : Frame → State → ℕ → Float
-currentBarUseOf f s e =
-    barUseOf (f .style .floating) (f .style .«allocated_width») (showBars (f .settings) s e) (num (f .host .«bar_factors») e)
+unfoldable pub currentBarUseOf : Frame → Bool → ℕ → Float
+currentBarUseOf f wasShown e =
+    barUseOf (f .style .floating) (f .style .«allocated_width») (showBars (f .settings) wasShown e) (num (f .host .«bar_factors») e)
 
 -- a rectangle's min[d] and max[d]
 unfoldable pub sideOf : Rect → ℕ → Rangef
@@ -80,14 +79,14 @@ spaceBy directionEnabled maxSize minScrolledSize barUse available clip =
       «clip_max» = contentClip .max;
     }
 
--- the space of axis d
-unfoldable pub spaceOf : Frame → State → ℕ → ℕ → AxisSpace
-spaceOf f s d e =
+-- the space of axis d, where the other axis's bar was shown or not
+unfoldable pub spaceOf : Frame → Bool → ℕ → ℕ → AxisSpace
+spaceOf f wasShown d e =
     spaceBy
     (flag (f .settings .«direction_enabled») d)
     (num (f .settings .«max_size») d)
     (num (f .settings .«min_scrolled_size») d)
-    (currentBarUseOf f s e)
+    (currentBarUseOf f wasShown e)
     (sideOf (f .host .available) d)
     (sideOf (f .host .clip) d)
 

@@ -17,7 +17,7 @@ use Rattle.area.specs.State.{noTarget}
 use Rattle.area.specs.Geometry.{pickOf, rectContainsPointer}
 use Rattle.area.specs.AxisPhysics.{physicsOf}
 use Rattle.area.specs.declared.frame.Frame.{Frame}
-use Rattle.area.specs.declared.state.State.{State}
+use Rattle.area.specs.declared.prepared.AxisBefore.{AxisBefore}
 use Rattle.area.specs.declared.prepared.AxisMotion.{AxisMotion}
 use Rattle.area.specs.declared.prepared.AxisSpace.{AxisSpace}
 use Rattle.area.specs.declared.extent.AxisExtent.{AxisExtent}
@@ -58,9 +58,9 @@ wheelScrollOf f d always = record {
 }
 
 -- "let physics": this frame's bounds, the rest of begin
-unfoldable pub wheelPhysicsOf : Frame → State → ℕ → AxisSpace → AxisExtent → AxisPhysics
-wheelPhysicsOf f s d space extent =
-    physicsOf (f .style .kinetic) (flag (f .settings .«direction_enabled») d) (flag (s .«content_is_too_large») d) (extent .«max_offset») (space .«inner_size»)
+unfoldable pub wheelPhysicsOf : Frame → ℕ → AxisBefore → AxisSpace → AxisExtent → AxisPhysics
+wheelPhysicsOf f d before space extent =
+    physicsOf (f .style .kinetic) (flag (f .settings .«direction_enabled») d) (before .«content_is_too_large») (extent .«max_offset») (space .«inner_size»)
 
 -- "if consumed"
 abbrev pub taken : AxisPhysics → Wheeled → Turned
@@ -91,8 +91,8 @@ turnedBy physics scroll m rubberBanding bounced =
     cond (r .consumed) (taken physics r) (untaken m rubberBanding r)
 
 -- the wheel on axis d: "if direction_enabled[d]"
-unfoldable pub turnedOf : Frame → State → ℕ → AxisSpace → AxisExtent → WheelHeard → AxisMotion → Bool → Turned
-turnedOf f s d space extent wheel m rubberBanding =
+unfoldable pub turnedOf : Frame → ℕ → AxisBefore → AxisSpace → AxisExtent → WheelHeard → AxisMotion → Bool → Turned
+turnedOf f d before space extent wheel m rubberBanding =
     cond (wheel .heard && flag (f .settings .«direction_enabled») d)
-    (turnedBy (wheelPhysicsOf f s d space extent) (wheelScrollOf f d (wheel .«always_scroll_enabled_direction»)) m rubberBanding (flag (s .«bounced_this_momentum») d))
-    (unheard m rubberBanding (flag (s .«bounced_this_momentum») d))
+    (turnedBy (wheelPhysicsOf f d before space extent) (wheelScrollOf f d (wheel .«always_scroll_enabled_direction»)) m rubberBanding (before .«bounced_this_momentum»))
+    (unheard m rubberBanding (before .«bounced_this_momentum»))

@@ -1,20 +1,22 @@
 // Targets and deltas: where the content asks to be scrolled to, and what that does to the motion of one axis.
 ghost use mathlib.Core.Path.{_≡_};
 ghost use Prim.Native.Nat.{_<_};
+ghost use Rattle.area.specs.Frame.{Whole, frameOf};
 ghost use Rattle.area.specs.Adjust as Spec;
-use crate::frame::Frame;
+use crate::content_words;
 use crate::frame::MaybeAlign;
 use crate::frame::MaybeScrollTarget;
 use crate::frame::ScrollAnimation;
 use crate::frame::ScrollTarget;
 use crate::frame::TargetRequest;
-use crate::pair::flag;
-use crate::pair::num;
+use crate::host_words;
 use crate::prepared::AxisMotion;
 use crate::prepared::AxisSpace;
+use crate::settings_words;
 use crate::state::MaybeTarget;
 use crate::state::OffsetTarget;
 use crate::state::ScrollingToTarget;
+use crate::style_words;
 use numbers::Align;
 use numbers::Rangef;
 use numbers::abs;
@@ -46,37 +48,31 @@ pub struct Adjusted {
 }
 
 // Scrolls one axis as its content asks: not at all, at once, or by a target that later frames follow.
-pub fn adjust_axis(frame: Frame, d: usize, space: AxisSpace, motion: AxisMotion) -> Adjusted
-    requires { ⌜ d < 2 ⌝ }
-    ensures { λ r. ⌜ r ≡ Spec.adjustedOf frame d space motion ⌝ }
+pub fn adjust_axis(frame: &[u8], d: usize, space: AxisSpace, motion: AxisMotion) -> Adjusted
+    requires { ⌜ Whole (now frame) × (d < 2) ⌝ }
+    ensures { λ r. ⌜ r ≡ Spec.adjustedOf (frameOf (now (frame .entry))) d space motion ⌝ }
 {
-    let directions = frame.settings.direction_enabled;
-    let targets = frame.content.targets;
-    let scroll_delta = frame.content.scroll_delta;
-    let content_min = frame.content.min;
-    let spacing = frame.style.item_spacing;
-    let request = targets[d];
     // A target's range is in the ui's coordinates, as the clip's side is.
     let view = AxisView {
-        min: num(content_min, d),
+        min: content_words::min(frame, d),
         clip_start: space.clip_min,
         clip_end: space.clip_max,
-        spacing: num(spacing, d),
+        spacing: style_words::item_spacing(frame, d),
     };
     // Seen from the offset that `begin` left.
     let asked = ask(
-        request,
-        num(scroll_delta, d),
-        frame.content.animation,
+        content_words::target_request(frame, d),
+        content_words::scroll_delta(frame, d),
+        content_words::animation(frame),
         view,
         motion.offset,
     );
     adjust_by(
         motion,
         asked,
-        flag(directions, d),
-        frame.settings.animated,
-        frame.host.time,
+        settings_words::direction_enabled(frame, d),
+        settings_words::animated(frame),
+        host_words::time(frame),
     )
 }
 

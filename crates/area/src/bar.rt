@@ -1,9 +1,9 @@
 // One turn of the bar loop, after the sticking.
 ghost use mathlib.Core.Path.{_≡_};
 ghost use Prim.Native.Nat.{_<_};
+ghost use Rattle.area.specs.Frame.{Whole, frameOf};
 ghost use Rattle.area.specs.Bar as Spec;
 use crate::frame::BarResponse;
-use crate::frame::Frame;
 use crate::geometry::pick;
 use crate::handle::BarSpace;
 use crate::handle::Track;
@@ -11,7 +11,7 @@ use crate::handle::calculate_handle;
 use crate::handle::handle_rect_of;
 use crate::handle::show_factor_of;
 use crate::handle::track_of;
-use crate::pair::num;
+use crate::host_words;
 use crate::prepared::AxisMotion;
 use crate::press::press_axis;
 use crate::state::MaybeRect;
@@ -80,7 +80,7 @@ fn show_bar(
 
 // The bar of axis d; e is the other axis.
 pub fn bar_axis(
-    f: Frame,
+    frame: &[u8],
     d: usize,
     e: usize,
     space: BarSpace,
@@ -89,14 +89,14 @@ pub fn bar_axis(
     stored: StartOffset,
     m: AxisMotion,
 ) -> Barred
-    requires { ⌜ d < 2 ⌝ }
-    ensures { λ r. ⌜ r ≡ Spec.barOf f d e space «show_scroll» «rubber_banding» stored m ⌝ }
+    requires { ⌜ Whole (now frame) × (d < 2) × (e < 2) ⌝ }
+    ensures { λ r. ⌜ r ≡ Spec.barOf (frameOf (now (frame .entry))) d e space «show_scroll» «rubber_banding» stored m ⌝ }
 {
-    let bar_factors = f.host.bar_factors;
-    let opening_factors = f.host.opening_factors;
-    let bars = f.host.bars;
-    let response = bars[d];
-    let show_factor = show_factor_of(show_scroll, num(bar_factors, d), num(opening_factors, d));
+    let show_factor = show_factor_of(
+        show_scroll,
+        host_words::bar_factor(frame, d),
+        host_words::opening_factor(frame, d),
+    );
     // A bar with factor 0 moves nothing; a press stored on it stays stored.
     if show_factor == 0.0 {
         return Barred {
@@ -109,6 +109,13 @@ pub fn bar_axis(
             is_press_blocked: false,
         };
     }
-    let t = track_of(f, d, e, space, show_factor);
-    show_bar(m, t, rubber_banding, stored, response, d)
+    let t = track_of(frame, d, e, space, show_factor);
+    show_bar(
+        m,
+        t,
+        rubber_banding,
+        stored,
+        host_words::bar_response(frame, d),
+        d,
+    )
 }

@@ -1,13 +1,12 @@
 // The frame call.
 ghost use mathlib.Core.Path.{_≡_};
+ghost use Rattle.area.specs.Frame.{Whole, frameOf};
 ghost use Rattle.area.specs.Call as Spec;
 ghost use Rattle.area.specs.Lists.{FrameSays};
 use crate::begin::begin;
 use crate::checks::refusal_of;
-use crate::decode::frame_of;
 use crate::end::end;
 use crate::end::is_press_blocked;
-use crate::frame::Frame;
 use crate::outcome::Answer;
 use crate::outcome::is_answer_finite;
 use crate::outcome::refused;
@@ -21,14 +20,15 @@ pub fn frame_call(state: State, bytes: &[u8]) -> Answer
     let refusal = refusal_of(bytes, state);
     let accepted = refusal == 0;
     if accepted {
-        return run(state, frame_of(bytes));
+        return run(state, bytes);
     }
     refused(state, refusal)
 }
 
 // `begin`, then `end`; 7 goes before 8.
-fn run(state: State, frame: Frame) -> Answer
-    ensures { λ r. ⌜ r ≡ Spec.runOf state frame ⌝ }
+fn run(state: State, frame: &[u8]) -> Answer
+    requires { ⌜ Whole (now frame) ⌝ }
+    ensures { λ r. ⌜ r ≡ Spec.runOf state (frameOf (now (frame .entry))) ⌝ }
 {
     let prepared = begin(frame, state);
     let ended = end(frame, state, prepared);

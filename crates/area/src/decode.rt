@@ -1,13 +1,12 @@
-// A frame from its bytes. Words are numbered from 1, as in the document; specs/Layout.antt says which is which.
+// What a word or some words in a row stand for. They are numbered from 1, as in the document.
 ghost use mathlib.Core.Path.{_≡_};
-ghost use lib.ListN.{length};
+ghost use Prim.Native.Nat.{_<_};
+ghost use Rattle.area.specs.Pair.{num, flag};
+ghost use Rattle.area.specs.Space.{sideOf};
 ghost use Rattle.area.specs.Frame as Spec;
 use crate::frame::BarResponse;
-use crate::frame::Content;
 use crate::frame::DragScroll;
-use crate::frame::Frame;
 use crate::frame::GivenOffset;
-use crate::frame::Host;
 use crate::frame::MaybeAlign;
 use crate::frame::MaybeNumber;
 use crate::frame::MaybePos2;
@@ -15,111 +14,13 @@ use crate::frame::MaybeScrollTarget;
 use crate::frame::ScrollAnimation;
 use crate::frame::ScrollBarVisibility;
 use crate::frame::ScrollTarget;
-use crate::frame::Settings;
-use crate::frame::Style;
 use crate::frame::TargetRequest;
 use crate::state::MaybeRect;
-use axis::KineticScrollStyle;
 use axis::WheelSource;
 use numbers::Align;
 use numbers::Pos2;
 use numbers::Rangef;
 use numbers::Rect;
-
-// The frame that 416 bytes stand for: its words are read without a test of the end.
-pub fn frame_of(s: &[u8]) -> Frame
-    requires { ⌜ length (now s) ≡ 416 ⌝ }
-    ensures { λ r. ⌜ r ≡ Spec.frameOf (now (s .entry)) ⌝ }
-{
-    Frame {
-        settings: settings_of(s),
-        style: style_of(s),
-        host: host_of(s),
-        content: content_of(s),
-    }
-}
-
-fn settings_of(s: &[u8]) -> Settings
-    requires { ⌜ length (now s) ≡ 416 ⌝ }
-    ensures { λ r. ⌜ r ≡ Spec.settingsOf (now (s .entry)) ⌝ }
-{
-    Settings {
-        direction_enabled: flags_at(s, 1),
-        auto_shrink: flags_at(s, 3),
-        max_size: pair_at(s, 5),
-        min_scrolled_size: pair_at(s, 7),
-        scroll_bar_visibility: visibility_at(s, 9),
-        scroll_bar_rect: maybe_rect_at(s, 10),
-        offset: [given_offset_at(s, 15), given_offset_at(s, 17)],
-        scroll_bar: flag_at(s, 19),
-        drag: drag_at(s, 20),
-        mouse_wheel: flag_at(s, 21),
-        wheel_scroll_multiplier: pair_at(s, 22),
-        stick_to_end: flags_at(s, 24),
-        animated: flag_at(s, 26),
-    }
-}
-
-fn style_of(s: &[u8]) -> Style
-    requires { ⌜ length (now s) ≡ 416 ⌝ }
-    ensures { λ r. ⌜ r ≡ Spec.styleOf (now (s .entry)) ⌝ }
-{
-    Style {
-        floating: flag_at(s, 27),
-        allocated_width: number_at(s, 28),
-        bar_width: number_at(s, 29),
-        bar_inner_margin: number_at(s, 30),
-        bar_outer_margin: number_at(s, 31),
-        floating_width: number_at(s, 32),
-        handle_min_length: number_at(s, 33),
-        item_spacing: pair_at(s, 34),
-        always_scroll_the_only_direction: flag_at(s, 36),
-        kinetic: KineticScrollStyle {
-            decay_time: number_at(s, 37),
-            stop_distance: number_at(s, 38),
-            rubber_band: flag_at(s, 39),
-        },
-    }
-}
-
-fn host_of(s: &[u8]) -> Host
-    requires { ⌜ length (now s) ≡ 416 ⌝ }
-    ensures { λ r. ⌜ r ≡ Spec.hostOf (now (s .entry)) ⌝ }
-{
-    Host {
-        available: rect_at(s, 40),
-        clip: rect_at(s, 44),
-        enabled: flag_at(s, 48),
-        touch: flag_at(s, 49),
-        scrolling_ancestor: flag_at(s, 50),
-        stable_dt: number_at(s, 51),
-        time: time_at(s, 52),
-        pointer: maybe_pos2_at(s, 54),
-        pointer_delta: pair_at(s, 57),
-        pointer_velocity: pair_at(s, 59),
-        dragged: flag_at(s, 61),
-        drag_stopped: flag_at(s, 62),
-        source: source_at(s, 63),
-        smooth_scroll_delta: pair_at(s, 64),
-        bar_factors: pair_at(s, 66),
-        opening_factors: pair_at(s, 68),
-        hover_factors: pair_at(s, 70),
-        bars: [bar_response_at(s, 72), bar_response_at(s, 77)],
-    }
-}
-
-fn content_of(s: &[u8]) -> Content
-    requires { ⌜ length (now s) ≡ 416 ⌝ }
-    ensures { λ r. ⌜ r ≡ Spec.contentOf (now (s .entry)) ⌝ }
-{
-    Content {
-        size: pair_at(s, 82),
-        min: pair_at(s, 84),
-        scroll_delta: pair_at(s, 86),
-        animation: animation_at(s, 88),
-        targets: [target_request_at(s, 91), target_request_at(s, 98)],
-    }
-}
 
 // Word n.
 pub fn word_at(s: &[u8], n: u32) -> u32
@@ -167,6 +68,33 @@ pub fn flags_at(s: &[u8], n: u32) -> [bool; 2]
     [flag_at(s, n), flag_at(s, n + 1)]
 }
 
+// Number d of the pair at word n.
+pub fn number_along(s: &[u8], n: u32, d: usize) -> f32
+    requires { ⌜ Spec.Holds (now s) n 1 × (d < 2) ⌝ }
+    ensures { λ r. ⌜ r ≡ num (Spec.pairNo (now (s .entry)) n) d ⌝ }
+{
+    number_at(s, n + (d as u32))
+}
+
+// Flag d of the two at word n.
+pub fn flag_along(s: &[u8], n: u32, d: usize) -> bool
+    requires { ⌜ Spec.Holds (now s) n 1 × (d < 2) ⌝ }
+    ensures { λ r. ⌜ r ≡ flag (Spec.flagsNo (now (s .entry)) n) d ⌝ }
+{
+    flag_at(s, n + (d as u32))
+}
+
+// The side along axis d of the rectangle at word n.
+pub fn side_along(s: &[u8], n: u32, d: usize) -> Rangef
+    requires { ⌜ Spec.Holds (now s) n 3 × (d < 2) ⌝ }
+    ensures { λ r. ⌜ r ≡ sideOf (Spec.rectNo (now (s .entry)) n) d ⌝ }
+{
+    Rangef {
+        min: number_along(s, n, d),
+        max: number_along(s, n + 2, d),
+    }
+}
+
 fn pos2_at(s: &[u8], n: u32) -> Pos2
     requires { ⌜ Spec.Holds (now s) n 1 ⌝ }
     ensures { λ r. ⌜ r ≡ Spec.pos2No (now (s .entry)) n ⌝ }
@@ -177,7 +105,7 @@ fn pos2_at(s: &[u8], n: u32) -> Pos2
     }
 }
 
-fn rect_at(s: &[u8], n: u32) -> Rect
+pub fn rect_at(s: &[u8], n: u32) -> Rect
     requires { ⌜ Spec.Holds (now s) n 3 ⌝ }
     ensures { λ r. ⌜ r ≡ Spec.rectNo (now (s .entry)) n ⌝ }
 {
@@ -197,7 +125,7 @@ fn rangef_at(s: &[u8], n: u32) -> Rangef
     }
 }
 
-fn given_offset_at(s: &[u8], n: u32) -> GivenOffset
+pub fn given_offset_at(s: &[u8], n: u32) -> GivenOffset
     requires { ⌜ Spec.Holds (now s) n 1 ⌝ }
     ensures { λ r. ⌜ r ≡ Spec.givenOffsetNo (now (s .entry)) n ⌝ }
 {
@@ -211,7 +139,7 @@ fn given_offset_at(s: &[u8], n: u32) -> GivenOffset
     }
 }
 
-fn maybe_pos2_at(s: &[u8], n: u32) -> MaybePos2
+pub fn maybe_pos2_at(s: &[u8], n: u32) -> MaybePos2
     requires { ⌜ Spec.Holds (now s) n 2 ⌝ }
     ensures { λ r. ⌜ r ≡ Spec.maybePos2No (now (s .entry)) n ⌝ }
 {
@@ -231,7 +159,7 @@ pub fn maybe_rect_at(s: &[u8], n: u32) -> MaybeRect
     MaybeRect::Nothing
 }
 
-fn bar_response_at(s: &[u8], n: u32) -> BarResponse
+pub fn bar_response_at(s: &[u8], n: u32) -> BarResponse
     requires { ⌜ Spec.Holds (now s) n 4 ⌝ }
     ensures { λ r. ⌜ r ≡ Spec.barResponseNo (now (s .entry)) n ⌝ }
 {
@@ -242,7 +170,7 @@ fn bar_response_at(s: &[u8], n: u32) -> BarResponse
     }
 }
 
-fn animation_at(s: &[u8], n: u32) -> ScrollAnimation
+pub fn animation_at(s: &[u8], n: u32) -> ScrollAnimation
     requires { ⌜ Spec.Holds (now s) n 2 ⌝ }
     ensures { λ r. ⌜ r ≡ Spec.animationNo (now (s .entry)) n ⌝ }
 {
@@ -263,7 +191,7 @@ fn scroll_target_at(s: &[u8], n: u32) -> ScrollTarget
     }
 }
 
-fn target_request_at(s: &[u8], n: u32) -> TargetRequest
+pub fn target_request_at(s: &[u8], n: u32) -> TargetRequest
     requires { ⌜ Spec.Holds (now s) n 6 ⌝ }
     ensures { λ r. ⌜ r ≡ Spec.targetRequestNo (now (s .entry)) n ⌝ }
 {
@@ -277,7 +205,7 @@ fn target_request_at(s: &[u8], n: u32) -> TargetRequest
     }
 }
 
-fn visibility_at(s: &[u8], n: u32) -> ScrollBarVisibility
+pub fn visibility_at(s: &[u8], n: u32) -> ScrollBarVisibility
     requires { ⌜ Spec.Holds (now s) n 0 ⌝ }
     ensures { λ r. ⌜ r ≡ Spec.visibilityNo (now (s .entry)) n ⌝ }
 {
@@ -293,7 +221,7 @@ fn visibility_at(s: &[u8], n: u32) -> ScrollBarVisibility
     ScrollBarVisibility::AlwaysVisible
 }
 
-fn drag_at(s: &[u8], n: u32) -> DragScroll
+pub fn drag_at(s: &[u8], n: u32) -> DragScroll
     requires { ⌜ Spec.Holds (now s) n 0 ⌝ }
     ensures { λ r. ⌜ r ≡ Spec.dragNo (now (s .entry)) n ⌝ }
 {

@@ -1,14 +1,16 @@
 // How a frame begins to move one axis: the host's explicit offset, then the hand on the content or the axis's own motion.
 ghost use mathlib.Core.Path.{_≡_};
 ghost use Prim.Native.Nat.{_<_};
+ghost use Rattle.area.specs.Frame.{Whole, frameOf};
 ghost use Rattle.area.specs.Drive as Spec;
 use crate::frame::GivenOffset;
 use crate::frame::MaybeNumber;
-use crate::frame::Settings;
 use crate::pair::flag;
 use crate::pair::num;
+use crate::prepared::AxisBefore;
 use crate::prepared::AxisBegun;
 use crate::prepared::AxisMotion;
+use crate::settings_words;
 use crate::state::MaybeTarget;
 use crate::state::OffsetTarget;
 use crate::state::State;
@@ -27,9 +29,9 @@ pub struct AxisInput {
 }
 
 // The motion of axis d, from where the host puts it.
-pub fn open_motion(settings: Settings, state: State, d: usize) -> AxisMotion
-    requires { ⌜ d < 2 ⌝ }
-    ensures { λ r. ⌜ r ≡ Spec.openedOf settings state d ⌝ }
+pub fn open_motion(frame: &[u8], state: State, d: usize) -> AxisMotion
+    requires { ⌜ Whole (now frame) × (d < 2) ⌝ }
+    ensures { λ r. ⌜ r ≡ Spec.openedOf (frameOf (now (frame .entry)) .settings) state d ⌝ }
 {
     let targets = state.offset_target;
     let offset_target = targets[d];
@@ -39,12 +41,29 @@ pub fn open_motion(settings: Settings, state: State, d: usize) -> AxisMotion
     let vel = num(velocities, d);
     let stuck = state.scroll_stuck_to_end;
     let scroll_stuck_to_end = flag(stuck, d);
-    let given = settings.offset;
     AxisMotion {
-        offset: given_offset_or(given[d], stored),
+        offset: given_offset_or(settings_words::given_offset(frame, d), stored),
         vel,
         offset_target,
         scroll_stuck_to_end,
+    }
+}
+
+// What else the last frame left on axis d.
+pub fn before_of(state: State, d: usize) -> AxisBefore
+    requires { ⌜ d < 2 ⌝ }
+    ensures { λ r. ⌜ r ≡ Spec.beforeOf state d ⌝ }
+{
+    let max_offsets = state.max_offset;
+    let too_large = state.content_is_too_large;
+    let bounces = state.bounced_this_momentum;
+    let presses = state.scroll_start_offset_from_top_left;
+    let press = presses[d];
+    AxisBefore {
+        max_offset: num(max_offsets, d),
+        content_is_too_large: flag(too_large, d),
+        bounced_this_momentum: flag(bounces, d),
+        press,
     }
 }
 

@@ -1,21 +1,24 @@
 // The second half of a frame: targets and deltas, sizes, the wheel, sticking, bars, the last clamp and the stuck flags.
 ghost use mathlib.Core.Path.{_≡_};
 ghost use Prim.Native.Nat.{_<_};
+ghost use Rattle.area.specs.Frame.{Whole, frameOf};
 ghost use Rattle.area.specs.End as Spec;
 use crate::adjust::Adjusted;
 use crate::adjust::adjust_axis;
 use crate::bar::Barred;
 use crate::bar::HandleRect;
 use crate::bar::bar_axis;
+use crate::drive::before_of;
 use crate::extent::AxisExtent;
 use crate::extent::extent_of;
-use crate::frame::Frame;
 use crate::geometry::shows_bar;
 use crate::handle::BarSpace;
-use crate::pair::flag;
+use crate::host_words;
+use crate::prepared::AxisBefore;
 use crate::prepared::AxisBegun;
 use crate::prepared::AxisSpace;
 use crate::prepared::Prepared;
+use crate::settings_words;
 use crate::settle::Settled;
 use crate::settle::settle_axis;
 use crate::state::OffsetTarget;
@@ -60,12 +63,13 @@ pub struct Ended {
     pub y: AxisEnded,
 }
 
-pub fn end(frame: Frame, state: State, prepared: Prepared) -> Ended
-    ensures { λ r. ⌜ r ≡ Spec.endOf frame state prepared ⌝ }
+pub fn end(frame: &[u8], state: State, prepared: Prepared) -> Ended
+    requires { ⌜ Whole (now frame) ⌝ }
+    ensures { λ r. ⌜ r ≡ Spec.endOf (frameOf (now (frame .entry))) state prepared ⌝ }
 {
     let x_extent = extent_of(frame, 0, prepared.x_space);
     let y_extent = extent_of(frame, 1, prepared.y_space);
-    let dragged = prepared.has_background_drag & frame.host.dragged;
+    let dragged = prepared.has_background_drag & host_words::dragged(frame);
     let wheel = hear_wheel(frame, outer_rect_of(x_extent, y_extent), dragged);
     let for_x = Extents {
         this: x_extent,
@@ -77,9 +81,9 @@ pub fn end(frame: Frame, state: State, prepared: Prepared) -> Ended
     };
     let x = end_axis(
         frame,
-        state,
         0,
         1,
+        before_of(state, 0),
         prepared.x_space,
         for_x,
         wheel,
@@ -87,9 +91,9 @@ pub fn end(frame: Frame, state: State, prepared: Prepared) -> Ended
     );
     let y = end_axis(
         frame,
-        state,
         1,
         0,
+        before_of(state, 1),
         prepared.y_space,
         for_y,
         wheel,
@@ -106,55 +110,52 @@ pub fn end(frame: Frame, state: State, prepared: Prepared) -> Ended
 
 // One axis through all stages; of the other axis e only the space matters.
 fn end_axis(
-    frame: Frame,
-    state: State,
+    frame: &[u8],
     d: usize,
     e: usize,
+    before: AxisBefore,
     space: AxisSpace,
     extents: Extents,
     wheel: WheelHeard,
     begun: AxisBegun,
 ) -> AxisEnded
-    requires { ⌜ d < 2 ⌝ }
-    ensures { λ r. ⌜ r ≡ Spec.axisEndedOf frame state d e space extents wheel begun ⌝ }
+    requires { ⌜ Whole (now frame) × (d < 2) × (e < 2) ⌝ }
+    ensures { λ r. ⌜ r ≡ Spec.axisEndedOf (frameOf (now (frame .entry))) d e before space extents wheel begun ⌝ }
 {
     let adjusted = adjust_axis(frame, d, space, begun.motion);
     let turned = turn_axis(
         frame,
-        state,
         d,
+        before,
         space,
         extents.this,
         wheel,
         adjusted.motion,
         begun.rubber_banding,
     );
-    finish_axis(frame, state, d, e, extents, adjusted, turned)
+    finish_axis(frame, d, e, before, extents, adjusted, turned)
 }
 
 // Sticking, the bar, the last clamp.
 fn finish_axis(
-    frame: Frame,
-    state: State,
+    frame: &[u8],
     d: usize,
     e: usize,
+    before: AxisBefore,
     extents: Extents,
     adjusted: Adjusted,
     turned: Turned,
 ) -> AxisEnded
-    requires { ⌜ d < 2 ⌝ }
-    ensures { λ r. ⌜ r ≡ Spec.finishedOf frame state d e extents adjusted turned ⌝ }
+    requires { ⌜ Whole (now frame) × (d < 2) × (e < 2) ⌝ }
+    ensures { λ r. ⌜ r ≡ Spec.finishedOf (frameOf (now (frame .entry))) d e before extents adjusted turned ⌝ }
 {
-    let stick_to_end = frame.settings.stick_to_end;
-    let enabled = frame.settings.direction_enabled;
-    let presses = state.scroll_start_offset_from_top_left;
-    let stored = presses[d];
-    let sticks = flag(stick_to_end, d);
+    let stored = before.press;
+    let sticks = settings_words::stick_to_end(frame, d);
     let explicit = adjusted.had_explicit_scroll_adjustment;
     let show = shows_bar(
-        frame.settings,
+        frame,
         extents.this.content_is_too_large,
-        flag(enabled, d),
+        settings_words::direction_enabled(frame, d),
     );
     let stuck = stick_axis(turned.motion, sticks, explicit, extents.this.max_offset);
     let barred = bar_axis(

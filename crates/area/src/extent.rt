@@ -1,12 +1,13 @@
 // How long the content, the inner and the outer rectangle are along one axis, now that the content is known.
 ghost use mathlib.Core.Path.{_≡_};
 ghost use Prim.Native.Nat.{_<_};
+ghost use Rattle.area.specs.Frame.{Whole, frameOf};
 ghost use Rattle.area.specs.Extent as Spec;
-use crate::frame::Frame;
+use crate::content_words;
 use crate::geometry::pick;
-use crate::pair::flag;
-use crate::pair::num;
 use crate::prepared::AxisSpace;
+use crate::settings_words;
+use crate::style_words;
 use numbers::ceil;
 use numbers::max;
 use numbers::min;
@@ -24,19 +25,16 @@ pub struct AxisExtent {
 }
 
 // Starts from the size of begin's inner rectangle, rounded again, not from begin's inner size.
-pub fn extent_of(frame: Frame, d: usize, space: AxisSpace) -> AxisExtent
-    requires { ⌜ d < 2 ⌝ }
-    ensures { λ r. ⌜ r ≡ Spec.extentOf frame d space ⌝ }
+pub fn extent_of(frame: &[u8], d: usize, space: AxisSpace) -> AxisExtent
+    requires { ⌜ Whole (now frame) × (d < 2) ⌝ }
+    ensures { λ r. ⌜ r ≡ Spec.extentOf (frameOf (now (frame .entry))) d space ⌝ }
 {
-    let enabled = frame.settings.direction_enabled;
-    let auto_shrink = frame.settings.auto_shrink;
-    let content_size = frame.content.size;
     extent_by(
-        flag(enabled, d),
-        flag(auto_shrink, d),
-        frame.style.floating,
+        settings_words::direction_enabled(frame, d),
+        settings_words::auto_shrink(frame, d),
+        style_words::floating(frame),
         space,
-        num(content_size, d),
+        content_words::size_along(frame, d),
     )
 }
 

@@ -1,10 +1,11 @@
 // What both halves of a frame ask of points, rectangles and options.
 ghost use mathlib.Core.Path.{_≡_};
+ghost use Rattle.area.specs.Frame.{Whole, frameOf};
 ghost use Rattle.area.specs.Geometry as Spec;
-use crate::frame::Host;
 use crate::frame::MaybePos2;
 use crate::frame::ScrollBarVisibility;
-use crate::frame::Settings;
+use crate::host_words;
+use crate::settings_words;
 use crate::state::MaybeRect;
 use crate::state::MaybeTarget;
 use crate::state::OffsetTarget;
@@ -32,10 +33,11 @@ pub fn pick(test: bool, a: f32, b: f32) -> f32
 }
 
 // Whether a bar is to show, where `needed` says whether the content asks for it.
-pub fn shows_bar(settings: Settings, needed: bool, enabled: bool) -> bool
-    ensures { λ r. ⌜ r ≡ Spec.showsBar (settings .«scroll_bar_visibility») needed enabled ⌝ }
+pub fn shows_bar(frame: &[u8], needed: bool, enabled: bool) -> bool
+    requires { ⌜ Whole (now frame) ⌝ }
+    ensures { λ r. ⌜ r ≡ Spec.showsBar (frameOf (now (frame .entry)) .settings .«scroll_bar_visibility») needed enabled ⌝ }
 {
-    let visibility = settings.scroll_bar_visibility;
+    let visibility = settings_words::scroll_bar_visibility(frame);
     match visibility {
         ScrollBarVisibility::AlwaysHidden => false,
         ScrollBarVisibility::VisibleWhenNeeded => needed,
@@ -44,13 +46,14 @@ pub fn shows_bar(settings: Settings, needed: bool, enabled: bool) -> bool
 }
 
 // A rectangle holds the pointer if its intersection with the clip does.
-pub fn rect_contains_pointer(host: Host, rect: Rect) -> bool
-    ensures { λ r. ⌜ r ≡ Spec.rectContainsPointer (host .clip) (host .pointer) rect ⌝ }
+pub fn rect_contains_pointer(frame: &[u8], rect: Rect) -> bool
+    requires { ⌜ Whole (now frame) ⌝ }
+    ensures { λ r. ⌜ r ≡ Spec.rectContainsPointer (frameOf (now (frame .entry)) .host .clip) (frameOf (now (frame .entry)) .host .pointer) rect ⌝ }
 {
-    let pointer = host.pointer;
+    let pointer = host_words::pointer(frame);
     match pointer {
         MaybePos2::Nothing => false,
-        MaybePos2::Some(p) => host.clip.intersect(rect).contains(p),
+        MaybePos2::Some(p) => host_words::clip(frame).intersect(rect).contains(p),
     }
 }
 

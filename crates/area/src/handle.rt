@@ -1,14 +1,14 @@
 // Where one axis's bar stands and where its handle is on it.
 ghost use mathlib.Core.Path.{_≡_};
 ghost use Prim.Native.Nat.{_<_};
+ghost use Rattle.area.specs.Frame.{Whole, frameOf};
 ghost use Rattle.area.specs.Handle as Spec;
-use crate::frame::Frame;
-use crate::frame::Settings;
-use crate::frame::Style;
 use crate::geometry::along;
 use crate::geometry::pick;
-use crate::pair::num;
+use crate::host_words;
+use crate::settings_words;
 use crate::state::MaybeRect;
+use crate::style_words;
 use numbers::Pos2;
 use numbers::Rangef;
 use numbers::Rect;
@@ -61,22 +61,28 @@ fn max_cross_of(outer_max: f32, clip_max: f32, outer_margin: f32) -> f32
 
 // A floating bar grows as the pointer comes near; another one fills what was set aside for it.
 fn cross_of(
-    style: Style,
+    frame: &[u8],
     show_factor: f32,
     hover_factor: f32,
     max_cross: f32,
     inner_max: f32,
 ) -> Rangef
-    ensures { λ r. ⌜ r ≡ Spec.crossOf style «show_factor» «hover_factor» «max_cross» «inner_max» ⌝ }
+    requires { ⌜ Whole (now frame) ⌝ }
+    ensures { λ r. ⌜ r ≡ Spec.crossOf (frameOf (now (frame .entry)) .style) «show_factor» «hover_factor» «max_cross» «inner_max» ⌝ }
 {
-    if style.floating {
-        let width = show_factor * lerp(style.floating_width, style.bar_width, hover_factor);
+    if style_words::floating(frame) {
+        let width = show_factor
+            * lerp(
+                style_words::floating_width(frame),
+                style_words::bar_width(frame),
+                hover_factor,
+            );
         return Rangef {
             min: max_cross - width,
             max: max_cross,
         };
     }
-    let inner_margin = show_factor * style.bar_inner_margin;
+    let inner_margin = show_factor * style_words::bar_inner_margin(frame);
     Rangef {
         min: inner_max + inner_margin,
         max: max_cross,
@@ -84,10 +90,11 @@ fn cross_of(
 }
 
 // The bar's side along the axis: the inner rectangle's, unless the host gave one.
-fn bar_range_of(settings: Settings, inner: Rangef, d: usize) -> Rangef
-    ensures { λ r. ⌜ r ≡ Spec.barRangeOf (settings .«scroll_bar_rect») inner d ⌝ }
+fn bar_range_of(frame: &[u8], inner: Rangef, d: usize) -> Rangef
+    requires { ⌜ Whole (now frame) ⌝ }
+    ensures { λ r. ⌜ r ≡ Spec.barRangeOf (frameOf (now (frame .entry)) .settings .«scroll_bar_rect») inner d ⌝ }
 {
-    let scroll_bar_rect = settings.scroll_bar_rect;
+    let scroll_bar_rect = settings_words::scroll_bar_rect(frame);
     match scroll_bar_rect {
         MaybeRect::Nothing => inner,
         MaybeRect::Some(rect) => Rangef {
@@ -98,32 +105,31 @@ fn bar_range_of(settings: Settings, inner: Rangef, d: usize) -> Rangef
 }
 
 // The bar of axis d; e is the other axis, along which the bar has its width.
-pub fn track_of(f: Frame, d: usize, e: usize, space: BarSpace, show_factor: f32) -> Track
-    requires { ⌜ d < 2 ⌝ }
-    ensures { λ r. ⌜ r ≡ Spec.trackOf f d e space «show_factor» ⌝ }
+pub fn track_of(frame: &[u8], d: usize, e: usize, space: BarSpace, show_factor: f32) -> Track
+    requires { ⌜ Whole (now frame) × (d < 2) × (e < 2) ⌝ }
+    ensures { λ r. ⌜ r ≡ Spec.trackOf (frameOf (now (frame .entry))) d e space «show_factor» ⌝ }
 {
-    let hover_factors = f.host.hover_factors;
-    let outer_margin = show_factor * f.style.bar_outer_margin;
+    let outer_margin = show_factor * style_words::bar_outer_margin(frame);
     let max_cross = max_cross_of(
         space.cross_outer_max,
-        along(f.host.clip.max, e),
+        host_words::clip_side(frame, e).max,
         outer_margin,
     );
     let cross = cross_of(
-        f.style,
+        frame,
         show_factor,
-        num(hover_factors, d),
+        host_words::hover_factor(frame, d),
         max_cross,
         space.cross_inner_max,
     );
-    let bar = bar_range_of(f.settings, space.inner, d);
+    let bar = bar_range_of(frame, space.inner, d);
     Track {
         bar,
         cross,
         content_size: space.content_size,
         inner_size: space.inner_size,
         max_offset: space.max_offset,
-        handle_min_length: f.style.handle_min_length,
+        handle_min_length: style_words::handle_min_length(frame),
     }
 }
 

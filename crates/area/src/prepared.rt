@@ -1,5 +1,6 @@
 // What `begin` hands to `end`.
 use crate::state::OffsetTarget;
+use crate::state::StartOffset;
 
 // What of the state moves on one axis.
 pub struct AxisMotion {
@@ -7,6 +8,14 @@ pub struct AxisMotion {
     pub vel: f32,
     pub offset_target: OffsetTarget,
     pub scroll_stuck_to_end: bool,
+}
+
+// What else the last frame left on one axis: the bounds, and what the wheel and the bar go on from.
+pub struct AxisBefore {
+    pub max_offset: f32,
+    pub content_is_too_large: bool,
+    pub bounced_this_momentum: bool,
+    pub press: StartOffset,
 }
 
 // The space of one axis: what the other axis's bar takes of it, the inner size, the inner rectangle's side, and the side

@@ -1,30 +1,33 @@
 // The answer of an accepted frame, put together from its two halves.
 ghost use mathlib.Core.Path.{_≡_};
+ghost use Rattle.area.specs.Frame.{Whole, frameOf};
 ghost use Rattle.area.specs.PutOut as Spec;
 use crate::begin::viewport_of;
+use crate::content_words;
 use crate::end::Ended;
 use crate::end::shrunk_rect_of;
-use crate::frame::Frame;
 use crate::geometry::pick;
+use crate::host_words;
 use crate::outcome::Answer;
 use crate::outcome::Outcome;
 use crate::pair::flag;
 use crate::prepared::Prepared;
+use crate::settings_words;
 use crate::space::inner_rect;
 use crate::state::MaybeRect;
 use crate::state::State;
 
-pub fn answer_of(frame: Frame, state: State, prepared: Prepared, ended: Ended) -> Answer
-    ensures { λ r. ⌜ r ≡ Spec.answerOf frame state prepared ended ⌝ }
+pub fn answer_of(frame: &[u8], state: State, prepared: Prepared, ended: Ended) -> Answer
+    requires { ⌜ Whole (now frame) ⌝ }
+    ensures { λ r. ⌜ r ≡ Spec.answerOf (frameOf (now (frame .entry))) state prepared ended ⌝ }
 {
-    let size = frame.content.size;
     let x_handle = ended.x.handle;
     let y_handle = ended.y.handle;
     Answer {
         state: next_state(ended),
         outcome: Outcome {
             refusal: 0,
-            content_size: size,
+            content_size: content_words::size(frame),
             inner_rect: inner_rect(prepared.x_space, prepared.y_space),
             viewport: viewport_of(frame, state, prepared),
             handles: [x_handle, y_handle],
@@ -65,32 +68,42 @@ fn next_state(ended: Ended) -> State
 }
 
 // A delta that was consumed is cleared, so that no parent uses it; both where the only direction took both.
-fn wheel_delta_left(frame: Frame, ended: Ended) -> [f32; 2]
-    ensures { λ r. ⌜ r ≡ Spec.wheelDeltaLeft frame ended ⌝ }
+fn wheel_delta_left(frame: &[u8], ended: Ended) -> [f32; 2]
+    requires { ⌜ Whole (now frame) ⌝ }
+    ensures { λ r. ⌜ r ≡ Spec.wheelDeltaLeft (frameOf (now (frame .entry))) ended ⌝ }
 {
     let both = ended.wheel.always_scroll_enabled_direction & (ended.x.consumed | ended.y.consumed);
-    let x_taken = both | ended.x.consumed;
-    let y_taken = both | ended.y.consumed;
-    let delta = frame.host.smooth_scroll_delta;
-    delta_left(delta, x_taken, y_taken)
+    [
+        pick(
+            both | ended.x.consumed,
+            0.0,
+            host_words::smooth_scroll_delta(frame, 0),
+        ),
+        pick(
+            both | ended.y.consumed,
+            0.0,
+            host_words::smooth_scroll_delta(frame, 1),
+        ),
+    ]
 }
 
 // The scroll delta of an enabled axis is taken.
-fn scroll_delta_left(frame: Frame) -> [f32; 2]
-    ensures { λ r. ⌜ r ≡ Spec.scrollDeltaLeft frame ⌝ }
+fn scroll_delta_left(frame: &[u8]) -> [f32; 2]
+    requires { ⌜ Whole (now frame) ⌝ }
+    ensures { λ r. ⌜ r ≡ Spec.scrollDeltaLeft (frameOf (now (frame .entry))) ⌝ }
 {
-    let enabled = frame.settings.direction_enabled;
-    let x_taken = flag(enabled, 0);
-    let y_taken = flag(enabled, 1);
-    let delta = frame.content.scroll_delta;
-    delta_left(delta, x_taken, y_taken)
-}
-
-// What was taken on an axis is 0.
-fn delta_left(delta: [f32; 2], x_taken: bool, y_taken: bool) -> [f32; 2]
-    ensures { λ r. ⌜ r ≡ Spec.deltaLeft delta «x_taken» «y_taken» ⌝ }
-{
-    [pick(x_taken, 0.0, delta[0]), pick(y_taken, 0.0, delta[1])]
+    [
+        pick(
+            settings_words::direction_enabled(frame, 0),
+            0.0,
+            content_words::scroll_delta(frame, 0),
+        ),
+        pick(
+            settings_words::direction_enabled(frame, 1),
+            0.0,
+            content_words::scroll_delta(frame, 1),
+        ),
+    ]
 }
 
 // A step that moves, a target under way, an adjustment, or bars that come or go.

@@ -1,50 +1,42 @@
 // The space that a frame begins with: what is available, less the bars, and what of it the content is clipped to.
 ghost use mathlib.Core.Path.{_≡_};
 ghost use Prim.Native.Nat.{_<_};
+ghost use Rattle.area.specs.Frame.{Whole, frameOf};
 ghost use Rattle.area.specs.Space as Spec;
-use crate::frame::Frame;
-use crate::geometry::along;
 use crate::geometry::shows_bar;
-use crate::pair::flag;
-use crate::pair::num;
+use crate::host_words;
 use crate::prepared::AxisSpace;
-use crate::state::State;
+use crate::settings_words;
+use crate::style_words;
 use numbers::Pos2;
 use numbers::Rangef;
 use numbers::Rect;
 use numbers::flag_as_number;
 
-// The space of axis d; the bar of the other axis e stands in its way.
-pub fn space_of(frame: Frame, state: State, d: usize, e: usize) -> AxisSpace
-    requires { ⌜ (d < 2) × (e < 2) ⌝ }
-    ensures { λ r. ⌜ r ≡ Spec.spaceOf frame state d e ⌝ }
+// The space of axis d; the bar of the other axis e, if it was shown, stands in its way.
+pub fn space_of(frame: &[u8], was_shown: bool, d: usize, e: usize) -> AxisSpace
+    requires { ⌜ Whole (now frame) × (d < 2) × (e < 2) ⌝ }
+    ensures { λ r. ⌜ r ≡ Spec.spaceOf (frameOf (now (frame .entry))) «was_shown» d e ⌝ }
 {
-    let directions = frame.settings.direction_enabled;
-    let max_sizes = frame.settings.max_size;
-    let min_sizes = frame.settings.min_scrolled_size;
-    let factors = frame.host.bar_factors;
-    let direction_enabled = flag(directions, d);
-    let max_size = num(max_sizes, d);
-    let min_scrolled_size = num(min_sizes, d);
-    let show_bar_factor = num(factors, e);
-    let available = side_of(frame.host.available, d);
-    let clip = side_of(frame.host.clip, d);
     // As far as the last frame tells whether the bar shows.
-    let shown = state.show_scroll;
-    let show_bar = shows_bar(frame.settings, flag(shown, e), flag(directions, e));
+    let show_bar = shows_bar(
+        frame,
+        was_shown,
+        settings_words::direction_enabled(frame, e),
+    );
     let bar_use = bar_use_of(
-        frame.style.floating,
-        frame.style.allocated_width,
+        style_words::floating(frame),
+        style_words::allocated_width(frame),
         show_bar,
-        show_bar_factor,
+        host_words::bar_factor(frame, e),
     );
     space_by(
-        direction_enabled,
-        max_size,
-        min_scrolled_size,
+        settings_words::direction_enabled(frame, d),
+        settings_words::max_size(frame, d),
+        settings_words::min_scrolled_size(frame, d),
         bar_use,
-        available,
-        clip,
+        host_words::available_side(frame, d),
+        host_words::clip_side(frame, d),
     )
 }
 
@@ -94,16 +86,6 @@ fn bar_use_of(floating: bool, allocated_width: f32, show_bar: bool, show_bar_fac
         return flag_as_number(show_bar) * allocated_width;
     }
     show_bar_factor * allocated_width
-}
-
-// A rectangle along axis d.
-fn side_of(rect: Rect, d: usize) -> Rangef
-    ensures { λ r. ⌜ r ≡ Spec.sideOf rect d ⌝ }
-{
-    Rangef {
-        min: along(rect.min, d),
-        max: along(rect.max, d),
-    }
 }
 
 // An area that scrolls keeps a least size, so that one inside another does not collapse.

@@ -1,20 +1,21 @@
 // The wheel: who hears it, and what a turn of it does to one axis.
 ghost use mathlib.Core.Path.{_≡_};
 ghost use Prim.Native.Nat.{_<_};
+ghost use Rattle.area.specs.Frame.{Whole, frameOf};
 ghost use Rattle.area.specs.WheelTurn as Spec;
 use crate::axis_physics::physics_of;
 use crate::begin::dt_of;
 use crate::extent::AxisExtent;
-use crate::frame::Frame;
 use crate::geometry::pick;
 use crate::geometry::rect_contains_pointer;
-use crate::pair::flag;
-use crate::pair::num;
+use crate::host_words;
+use crate::prepared::AxisBefore;
 use crate::prepared::AxisMotion;
 use crate::prepared::AxisSpace;
+use crate::settings_words;
 use crate::state::MaybeTarget;
 use crate::state::OffsetTarget;
-use crate::state::State;
+use crate::style_words;
 use axis::AxisPhysics;
 use axis::WheelScroll;
 use numbers::Rect;
@@ -34,74 +35,78 @@ pub struct Turned {
 }
 
 // The pointer is over the outer rectangle, or drags the background.
-pub fn hear_wheel(frame: Frame, outer_rect: Rect, is_dragging_background: bool) -> WheelHeard
-    ensures { λ r. ⌜ r ≡ Spec.heardOf frame «outer_rect» «is_dragging_background» ⌝ }
+pub fn hear_wheel(frame: &[u8], outer_rect: Rect, is_dragging_background: bool) -> WheelHeard
+    requires { ⌜ Whole (now frame) ⌝ }
+    ensures { λ r. ⌜ r ≡ Spec.heardOf (frameOf (now (frame .entry))) «outer_rect» «is_dragging_background» ⌝ }
 {
-    let enabled = frame.settings.direction_enabled;
-    let only = flag(enabled, 0) != flag(enabled, 1);
-    let over = rect_contains_pointer(frame.host, outer_rect);
+    let only = settings_words::direction_enabled(frame, 0)
+        != settings_words::direction_enabled(frame, 1);
+    let over = rect_contains_pointer(frame, outer_rect);
     WheelHeard {
-        heard: frame.settings.mouse_wheel & frame.host.enabled & (over | is_dragging_background),
-        always_scroll_enabled_direction: frame.style.always_scroll_the_only_direction & only,
+        heard: settings_words::mouse_wheel(frame)
+            & host_words::enabled(frame)
+            & (over | is_dragging_background),
+        always_scroll_enabled_direction: style_words::always_scroll_the_only_direction(frame)
+            & only,
     }
 }
 
 // Turns one axis, if it is enabled and the wheel is heard; rubber_banding is begin's.
 pub fn turn_axis(
-    frame: Frame,
-    state: State,
+    frame: &[u8],
     d: usize,
+    before: AxisBefore,
     space: AxisSpace,
     extent: AxisExtent,
     wheel: WheelHeard,
     motion: AxisMotion,
     rubber_banding: bool,
 ) -> Turned
-    requires { ⌜ d < 2 ⌝ }
-    ensures { λ r. ⌜ r ≡ Spec.turnedOf frame state d space extent wheel motion «rubber_banding» ⌝ }
+    requires { ⌜ Whole (now frame) × (d < 2) ⌝ }
+    ensures { λ r. ⌜ r ≡ Spec.turnedOf (frameOf (now (frame .entry))) d before space extent wheel motion «rubber_banding» ⌝ }
 {
-    let directions = frame.settings.direction_enabled;
-    let bounces = state.bounced_this_momentum;
-    let enabled = flag(directions, d);
-    let bounced = flag(bounces, d);
+    let enabled = settings_words::direction_enabled(frame, d);
     if wheel.heard & enabled {
-        let too_large = state.content_is_too_large;
         // We know this frame's bounds now; extent and rubber band stay those of `begin`.
         let physics = physics_of(
-            frame.style.kinetic,
+            style_words::kinetic(frame),
             enabled,
-            flag(too_large, d),
+            before.content_is_too_large,
             extent.max_offset,
             space.inner_size,
         );
         let scroll = wheel_scroll(frame, d, wheel.always_scroll_enabled_direction);
-        return turn_by(physics, scroll, motion, rubber_banding, bounced);
+        return turn_by(
+            physics,
+            scroll,
+            motion,
+            rubber_banding,
+            before.bounced_this_momentum,
+        );
     }
     Turned {
         motion,
         rubber_banding,
-        bounced_this_momentum: bounced,
+        bounced_this_momentum: before.bounced_this_momentum,
         consumed: false,
     }
 }
 
 // A wheel's delta points against the offset. With one direction only, either way of turning moves it, without shift.
-fn wheel_scroll(frame: Frame, d: usize, always_scroll_enabled_direction: bool) -> WheelScroll
-    requires { ⌜ d < 2 ⌝ }
-    ensures { λ r. ⌜ r ≡ Spec.wheelScrollOf frame d «always_scroll_enabled_direction» ⌝ }
+fn wheel_scroll(frame: &[u8], d: usize, always_scroll_enabled_direction: bool) -> WheelScroll
+    requires { ⌜ Whole (now frame) × (d < 2) ⌝ }
+    ensures { λ r. ⌜ r ≡ Spec.wheelScrollOf (frameOf (now (frame .entry))) d «always_scroll_enabled_direction» ⌝ }
 {
-    let host = frame.host;
-    let source = host.source;
-    let delta = host.smooth_scroll_delta;
-    let multiplier = frame.settings.wheel_scroll_multiplier;
-    let both = num(delta, 0) + num(delta, 1);
-    let own = num(delta, d);
-    let scroll_delta = pick(always_scroll_enabled_direction, both, own) * num(multiplier, d);
+    let both = host_words::smooth_scroll_delta(frame, 0)
+        + host_words::smooth_scroll_delta(frame, 1);
+    let own = host_words::smooth_scroll_delta(frame, d);
+    let scroll_delta = pick(always_scroll_enabled_direction, both, own)
+        * settings_words::wheel_scroll_multiplier(frame, d);
     WheelScroll {
         delta: -scroll_delta,
-        source,
-        can_chain_to_parent: host.scrolling_ancestor,
-        dt: dt_of(frame.host.stable_dt),
+        source: host_words::source(frame),
+        can_chain_to_parent: host_words::scrolling_ancestor(frame),
+        dt: dt_of(host_words::stable_dt(frame)),
     }
 }
 

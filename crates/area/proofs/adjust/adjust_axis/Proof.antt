@@ -1,46 +1,54 @@
 use borrow.Author.Needs.{needs}
-use Rattle.area.specs.Adjust.{adjustedOf, askedAt, viewOf}
+use Rattle.area.specs.Adjust.{adjustedOf, viewOf, askedAt}
 use Rattle.area.proofs.adjust.adjust_axis.Statement.{statement}
 use Rattle.area.proofs.adjust.adjust_axis.Tie as tie
 
-mul-request : tie.Need-mul-request
-mul-request c = search needs
+min-requires : tie.Need-min-requires
+min-requires c κs = search needs
 
-array-copy-out-request : tie.Need-array-copy-out-request
-array-copy-out-request c = search needs
+item-spacing-requires : tie.Need-item-spacing-requires
+item-spacing-requires c κs = search needs
 
-num-requires : tie.Need-num-requires
-num-requires c κs = search needs
+target-request-requires : tie.Need-target-request-requires
+target-request-requires c κs = search needs
 
-num-requires-2 : tie.Need-num-requires-2
-num-requires-2 c κs = search needs
+scroll-delta-requires : tie.Need-scroll-delta-requires
+scroll-delta-requires c κs = search needs
 
-num-requires-3 : tie.Need-num-requires-3
-num-requires-3 c κs = search needs
+animation-requires : tie.Need-animation-requires
+animation-requires c κs = search needs
 
 ask-requires : tie.Need-ask-requires
 ask-requires c κs = search needs
 
-flag-requires : tie.Need-flag-requires
-flag-requires c κs = search needs
+direction-enabled-requires : tie.Need-direction-enabled-requires
+direction-enabled-requires c κs = search needs
+
+animated-requires : tie.Need-animated-requires
+animated-requires c κs = search needs
+
+time-requires : tie.Need-time-requires
+time-requires c κs = search needs
 
 adjust-by-requires : tie.Need-adjust-by-requires
 adjust-by-requires c κs = search needs
 
 returns : tie.Need-returns
-unfolding adjustedOf askedAt viewOf
-returns c = rw (← c .before .before .before .before .before .num .ensures, ← c .before .before .before .before .num2 .ensures, ← c .before .before .before .num3 .ensures, ← c .before .before .ask .ensures, ← c .before .flag .ensures, ← c .adjust-by .ensures)
+unfolding adjustedOf viewOf askedAt
+returns c = rw (← c .before .before .before .before .before .before .before .before .before .min .ensures, ← c .before .before .before .before .before .before .before .before .item-spacing .ensures, ← c .before .before .before .before .before .before .before .target-request .ensures, ← c .before .before .before .before .before .before .scroll-delta .ensures, ← c .before .before .before .before .before .animation .ensures, ← c .before .before .before .before .ask .ensures, ← c .before .before .before .direction-enabled .ensures, ← c .before .before .animated .ensures, ← c .before .time .ensures, ← c .adjust-by .ensures)
 
 pub adjust-axis-spec : {M : Type 1} → statement M
 adjust-axis-spec =
     tie.close
     (tie.spec
-    mul-request
-    array-copy-out-request
-    num-requires
-    num-requires-2
-    num-requires-3
+    min-requires
+    item-spacing-requires
+    target-request-requires
+    scroll-delta-requires
+    animation-requires
     ask-requires
-    flag-requires
+    direction-enabled-requires
+    animated-requires
+    time-requires
     adjust-by-requires
     returns)

@@ -7,17 +7,14 @@ use Rattle.area.proofs.call.frame_call.Tie as tie
 refusal-of-requires : tie.Need-refusal-of-requires
 refusal-of-requires c κs = search needs
 
-frame-of-requires : tie.Need-frame-of-requires
-frame-of-requires c κs =
+run-requires : tie.Need-run-requires
+run-requires c κs =
     let start = c .before .before .before in
     whole-of (start .args .state) (start .args .bytes .now) _ (c .before .refusal-of .ensures) (c .if1 .taken)
 
-run-requires : tie.Need-run-requires
-run-requires c κs = search needs
-
 returns : tie.Need-returns
 unfolding callOf
-returns c = rw (← c .before .before .before .refusal-of .ensures, c .before .before .if1 .taken, ← c .before .frame-of .ensures, ← c .run .ensures)
+returns c = rw (← c .before .before .refusal-of .ensures, c .before .if1 .taken, ← c .run .ensures)
 
 refused-requires : tie.Need-refused-requires
 refused-requires c κs = search needs
@@ -27,12 +24,4 @@ unfolding callOf
 returns-2 c = rw (← c .before .before .refusal-of .ensures, c .before .if1 .left, ← c .refused .ensures)
 
 pub frame-call-spec : {M : Type 1} → statement M
-frame-call-spec =
-    tie.close
-    (tie.spec
-    refusal-of-requires
-    frame-of-requires
-    run-requires
-    returns
-    refused-requires
-    returns-2)
+frame-call-spec = tie.close (tie.spec refusal-of-requires run-requires returns refused-requires returns-2)

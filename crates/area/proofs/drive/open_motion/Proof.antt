@@ -18,18 +18,15 @@ num-requires-2 c κs = search needs
 flag-requires : tie.Need-flag-requires
 flag-requires c κs = search needs
 
-mul-given-offset-or : tie.Need-mul-given-offset-or
-mul-given-offset-or c = search needs
-
-array-copy-out-given-offset-or : tie.Need-array-copy-out-given-offset-or
-array-copy-out-given-offset-or c = search needs
+given-offset-requires : tie.Need-given-offset-requires
+given-offset-requires c κs = search needs
 
 given-offset-or-requires : tie.Need-given-offset-or-requires
 given-offset-or-requires c κs = search needs
 
 returns : tie.Need-returns
 unfolding openedOf
-returns c = rw (← c .before .before .before .before .before .before .before .num .ensures, ← c .before .before .before .before .before .num2 .ensures, ← c .before .before .before .flag .ensures, ← c .given-offset-or .ensures)
+returns c = rw (← c .before .before .before .before .before .before .num .ensures, ← c .before .before .before .before .num2 .ensures, ← c .before .before .flag .ensures, ← c .before .given-offset .ensures, ← c .given-offset-or .ensures)
 
 pub open-motion-spec : {M : Type 1} → statement M
 open-motion-spec =
@@ -40,7 +37,6 @@ open-motion-spec =
     num-requires
     num-requires-2
     flag-requires
-    mul-given-offset-or
-    array-copy-out-given-offset-or
+    given-offset-requires
     given-offset-or-requires
     returns)

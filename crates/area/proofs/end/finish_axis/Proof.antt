@@ -3,17 +3,11 @@ use Rattle.area.specs.End.{finishedOf}
 use Rattle.area.proofs.end.finish_axis.Statement.{statement}
 use Rattle.area.proofs.end.finish_axis.Tie as tie
 
-mul-stored : tie.Need-mul-stored
-mul-stored c = search needs
+stick-to-end-requires : tie.Need-stick-to-end-requires
+stick-to-end-requires c κs = search needs
 
-array-copy-out-stored : tie.Need-array-copy-out-stored
-array-copy-out-stored c = search needs
-
-flag-requires : tie.Need-flag-requires
-flag-requires c κs = search needs
-
-flag-requires-2 : tie.Need-flag-requires-2
-flag-requires-2 c κs = search needs
+direction-enabled-requires : tie.Need-direction-enabled-requires
+direction-enabled-requires c κs = search needs
 
 shows-bar-requires : tie.Need-shows-bar-requires
 shows-bar-requires c κs = search needs
@@ -35,16 +29,14 @@ ended-of-requires c κs = search needs
 
 returns : tie.Need-returns
 unfolding finishedOf
-returns c = rw (← c .before .before .before .before .before .before .before .flag .ensures, ← c .before .before .before .before .before .before .flag2 .ensures, ← c .before .before .before .before .before .shows-bar .ensures, ← c .before .before .before .before .stick-axis .ensures, ← c .before .before .before .bar-space-of .ensures, ← c .before .before .bar-axis .ensures, ← c .before .settle-axis .ensures, ← c .ended-of .ensures)
+returns c = rw (← c .before .before .before .before .before .before .before .stick-to-end .ensures, ← c .before .before .before .before .before .before .direction-enabled .ensures, ← c .before .before .before .before .before .shows-bar .ensures, ← c .before .before .before .before .stick-axis .ensures, ← c .before .before .before .bar-space-of .ensures, ← c .before .before .bar-axis .ensures, ← c .before .settle-axis .ensures, ← c .ended-of .ensures)
 
 pub finish-axis-spec : {M : Type 1} → statement M
 finish-axis-spec =
     tie.close
     (tie.spec
-    mul-stored
-    array-copy-out-stored
-    flag-requires
-    flag-requires-2
+    stick-to-end-requires
+    direction-enabled-requires
     shows-bar-requires
     stick-axis-requires
     bar-space-of-requires

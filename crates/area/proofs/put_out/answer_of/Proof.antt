@@ -7,6 +7,9 @@ use Rattle.area.proofs.put_out.answer_of.Tie as tie
 next-state-requires : tie.Need-next-state-requires
 next-state-requires c κs = search needs
 
+size-requires : tie.Need-size-requires
+size-requires c κs = search needs
+
 inner-rect-requires : tie.Need-inner-rect-requires
 inner-rect-requires c κs = search needs
 
@@ -24,13 +27,14 @@ wants-repaint-requires c κs = search needs
 
 returns : tie.Need-returns
 unfolding answerOf outcomeOf innerRectOf
-returns c = rw (← c .before .before .before .before .before .next-state .ensures, ← c .before .before .before .before .inner-rect .ensures, ← c .before .before .before .viewport-of .ensures, ← c .before .before .wheel-delta-left .ensures, ← c .before .scroll-delta-left .ensures, ← c .wants-repaint .ensures)
+returns c = rw (c .before .scroll-delta-left .ensures, c .before .before .wheel-delta-left .ensures, c .before .before .before .viewport-of .ensures, ← c .before .before .before .before .before .before .next-state .ensures, ← c .before .before .before .before .before .size .ensures, ← c .before .before .before .before .inner-rect .ensures, ← c .wants-repaint .ensures)
 
 pub answer-of-spec : {M : Type 1} → statement M
 answer-of-spec =
     tie.close
     (tie.spec
     next-state-requires
+    size-requires
     inner-rect-requires
     viewport-of-requires
     wheel-delta-left-requires

@@ -1,0 +1,14 @@
+use borrow.Author.Needs.{needs}
+use Rattle.area.specs.Frame.{frameOf, contentOf}
+use Rattle.area.proofs.content_words.scroll_delta.Statement.{statement}
+use Rattle.area.proofs.content_words.scroll_delta.Tie as tie
+
+number-along-requires : tie.Need-number-along-requires
+number-along-requires c κs = search needs
+
+returns : tie.Need-returns
+unfolding frameOf contentOf
+returns c = c .number-along .ensures
+
+pub scroll-delta-spec : {M : Type 1} → statement M
+scroll-delta-spec = tie.close (tie.spec number-along-requires returns)

@@ -1,0 +1,14 @@
+use borrow.Author.Needs.{needs}
+use Rattle.area.specs.Frame.{frameOf, settingsOf}
+use Rattle.area.proofs.settings_words.direction_enabled.Statement.{statement}
+use Rattle.area.proofs.settings_words.direction_enabled.Tie as tie
+
+flag-along-requires : tie.Need-flag-along-requires
+flag-along-requires c κs = search needs
+
+returns : tie.Need-returns
+unfolding frameOf settingsOf
+returns c = c .flag-along .ensures
+
+pub direction-enabled-spec : {M : Type 1} → statement M
+direction-enabled-spec = tie.close (tie.spec flag-along-requires returns)

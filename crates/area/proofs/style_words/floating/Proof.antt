@@ -1,0 +1,14 @@
+use borrow.Author.Needs.{needs}
+use Rattle.area.specs.Frame.{frameOf, styleOf}
+use Rattle.area.proofs.style_words.floating.Statement.{statement}
+use Rattle.area.proofs.style_words.floating.Tie as tie
+
+flag-at-requires : tie.Need-flag-at-requires
+flag-at-requires c κs = search needs
+
+returns : tie.Need-returns
+unfolding frameOf styleOf
+returns c = c .flag-at .ensures
+
+pub floating-spec : {M : Type 1} → statement M
+floating-spec = tie.close (tie.spec flag-at-requires returns)
