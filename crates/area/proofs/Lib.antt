@@ -1,6 +1,7 @@
 pub mod TestLaws
 pub mod PairLaws
 pub mod SweepLaws
+pub mod InfinityLaws
 pub mod OrderLaws
 pub mod CallLaws
 pub mod FollowLaws

@@ -5,7 +5,7 @@ ghost use mathlib.Core.Bool.{cond, _&&_};
 ghost use mathlib.Core.List.{[], _∷_};
 ghost use Prim.Native.Nat.{_≤_, _<_, _+_};
 ghost use lib.ListN.{length};
-ghost use lib.Ieee.{ne};
+ghost use lib.Ieee.{binary32, ofBits, ne};
 ghost use Rattle.axis.specs.Limits.{exceedsLimit};
 ghost use Rattle.area.specs.Checks.{infinity};
 ghost use Rattle.area.specs.Layout as At;
@@ -14,8 +14,9 @@ use crate::decode::flag_at;
 use crate::decode::number_at;
 use crate::decode::time_at;
 use crate::decode::word_at;
-use axis::exceeds_limit;
 use axis::is_decay_time_outside;
+use axis::word_exceeds_limit;
+use numbers::is_word_negative;
 
 // ---- the lowest number
 
@@ -51,12 +52,11 @@ fn with_number(low: u32, exceeds: bool, outside: bool, k: u32) -> u32
     low
 }
 
-// Where +infinity may stand.
-fn exceeds_unless_infinity(x: f32) -> bool
-    ensures { λ r. ⌜ r ≡ (exceedsLimit x && ne x infinity) ⌝ }
+// Where +infinity, 0x7f800000, may stand.
+fn exceeds_unless_infinity(word: u32) -> bool
+    ensures { λ r. ⌜ r ≡ (exceedsLimit (ofBits binary32 word) && ne (ofBits binary32 word) infinity) ⌝ }
 {
-    let infinity: f32 = 1.0 / 0.0;
-    exceeds_limit(x) & (x != infinity)
+    word_exceeds_limit(word) & (word != 2139095040)
 }
 
 // ---- one word
@@ -83,24 +83,29 @@ fn plain(low: u32, s: &[u8], n: u32) -> u32
     requires { ⌜ Spec.Within (now s) n 104 ⌝ }
     ensures { λ r. ⌜ r ≡ Spec.lowerOf low (Spec.shownBy At.plain (now (s .entry)) n) ⌝ }
 {
-    let x = number_at(s, n);
-    with_number(low, exceeds_limit(x), false, 0)
+    let word = word_at(s, n);
+    with_number(low, word_exceeds_limit(word), false, 0)
 }
 
 fn size(low: u32, s: &[u8], n: u32) -> u32
     requires { ⌜ Spec.Within (now s) n 104 ⌝ }
     ensures { λ r. ⌜ r ≡ Spec.lowerOf low (Spec.shownBy At.size (now (s .entry)) n) ⌝ }
 {
-    let x = number_at(s, n);
-    with_number(low, exceeds_limit(x), x < 0.0, 4)
+    let word = word_at(s, n);
+    with_number(low, word_exceeds_limit(word), is_word_negative(word), 4)
 }
 
 fn size_or_infinity(low: u32, s: &[u8], n: u32) -> u32
     requires { ⌜ Spec.Within (now s) n 104 ⌝ }
     ensures { λ r. ⌜ r ≡ Spec.lowerOf low (Spec.shownBy At.sizeOrInfinity (now (s .entry)) n) ⌝ }
 {
-    let x = number_at(s, n);
-    with_number(low, exceeds_unless_infinity(x), x < 0.0, 4)
+    let word = word_at(s, n);
+    with_number(
+        low,
+        exceeds_unless_infinity(word),
+        is_word_negative(word),
+        4,
+    )
 }
 
 fn factor(low: u32, s: &[u8], n: u32) -> u32
@@ -108,7 +113,12 @@ fn factor(low: u32, s: &[u8], n: u32) -> u32
     ensures { λ r. ⌜ r ≡ Spec.lowerOf low (Spec.shownBy At.factor (now (s .entry)) n) ⌝ }
 {
     let x = number_at(s, n);
-    with_number(low, exceeds_limit(x), !((0.0 <= x) & (x <= 1.0)), 4)
+    with_number(
+        low,
+        word_exceeds_limit(word_at(s, n)),
+        !((0.0 <= x) & (x <= 1.0)),
+        4,
+    )
 }
 
 // The end of what starts at another word.
@@ -117,7 +127,12 @@ fn end_of(low: u32, s: &[u8], n: u32, start: u32) -> u32
     ensures { λ r. ⌜ r ≡ Spec.lowerOf low (Spec.shownBy (At.endOf start) (now (s .entry)) n) ⌝ }
 {
     let x = number_at(s, n);
-    with_number(low, exceeds_limit(x), x < number_at(s, start), 4)
+    with_number(
+        low,
+        word_exceeds_limit(word_at(s, n)),
+        x < number_at(s, start),
+        4,
+    )
 }
 
 fn points_per_second(low: u32, s: &[u8], n: u32) -> u32
@@ -125,7 +140,7 @@ fn points_per_second(low: u32, s: &[u8], n: u32) -> u32
     ensures { λ r. ⌜ r ≡ Spec.lowerOf low (Spec.shownBy At.pointsPerSecond (now (s .entry)) n) ⌝ }
 {
     let x = number_at(s, n);
-    with_number(low, exceeds_unless_infinity(x), !(0.0 < x), 5)
+    with_number(low, exceeds_unless_infinity(word_at(s, n)), !(0.0 < x), 5)
 }
 
 fn decay_time(low: u32, s: &[u8], n: u32) -> u32
@@ -133,15 +148,20 @@ fn decay_time(low: u32, s: &[u8], n: u32) -> u32
     ensures { λ r. ⌜ r ≡ Spec.lowerOf low (Spec.shownBy (At.bounded At.number At.decayTime) (now (s .entry)) n) ⌝ }
 {
     let x = number_at(s, n);
-    with_number(low, exceeds_limit(x), is_decay_time_outside(x), 5)
+    with_number(
+        low,
+        word_exceeds_limit(word_at(s, n)),
+        is_decay_time_outside(x),
+        5,
+    )
 }
 
 fn stop_distance(low: u32, s: &[u8], n: u32) -> u32
     requires { ⌜ Spec.Within (now s) n 104 ⌝ }
     ensures { λ r. ⌜ r ≡ Spec.lowerOf low (Spec.shownBy (At.bounded At.number At.stopDistance) (now (s .entry)) n) ⌝ }
 {
-    let x = number_at(s, n);
-    with_number(low, exceeds_limit(x), x < 0.0, 5)
+    let word = word_at(s, n);
+    with_number(low, word_exceeds_limit(word), is_word_negative(word), 5)
 }
 
 // ---- a field, by its first word

@@ -25,7 +25,7 @@ use types.Kit.{Given, ‵, raw, _⊛_, ⋆, some, later, _$_, _∵_, !, qed, by,
 use types.Kit.{fsplit, fsplit3, fjoin, fjoin3, feqI, suffices, frame, await, done}
 use types.Run.{look, look-raw, init, store-raw, forget, stop, hop, fld, from, load, of-opd, and-then, no-more, assigns, land}
 use types.Run.{returns, enter, alloc1, alloc0, params1, pass1, pass0, free1, free0}
-use types.Part.{whole, sub, look-in}
+use types.Part.{whole}
 use types.SemTy.{Body}
 use sound.WpLaws.{FmC, fmOf, WpFn-mono}
 use denote.RattleType.{owns}
@@ -55,7 +55,8 @@ use Rattle.area.proofs.outcome.Outcome as O
 use Rattle.area.proofs.outcome.Outcome.Laws as O′
 use Rattle.area.proofs.outcome.Answer as B
 use Rattle.area.proofs.outcome.Answer.Laws as B′
-use Rattle.area.proofs.Values.{stateVal, outcomeVal, state-of, outcome-of}
+use Rattle.area.proofs.Values.{stateVal, outcomeVal, outcomeAt, state-tells, answer-tells, state-typed, outcome-typed, answer-typed}
+use Rattle.area.proofs.Values.{look-state, look-outcome, state-of, outcome-of}
 use Rattle.area.proofs.call.frame_call as callee
 use Rattle.area.proofs.call.frame_call.Symbol as callee-def
 use Rattle.area.proofs.call.frame_call.Symbol.{name as #call}
@@ -144,13 +145,12 @@ module _ {M : Type 1} (𝓤 : URA M) (H : Heap 𝓤) (A : Atoms 𝓤) (W : Given
         -- the borrow is opened
         move ! (11 ∷ []) $ fsplit ! $ fsplit3 ! $ drop ! $ move ! (13 ∷ []) $ split ! $ move ! (2 ∷ 3 ∷ 0 ∷ []) $
         opens ! tt S.the-row {h = h} b o
-        (λ vs. spelt ! S.the-row (Is S.the-row) (shows 𝓤 H A S.the-row) (LL.vals S.the-type S′.the-laws)
-        (LL.tells S.the-type S′.the-laws) fullShare h vs b o $
+        (λ vs. spelt ! S.the-row (Is S.the-row) (shows 𝓤 H A S.the-row) (λ u. stateVal u ∷ []) state-tells fullShare h vs b o $
         move ! (1 ∷ []) $ peeks ! S.the-row (Is S.the-row) (shows 𝓤 H A S.the-row) h (stateVal h ∷ []) (λ was. move ! (1 ∷ 0 ∷ []) $
         -- [the state's cell; what a State owns; the open borrow; obs; auth; the slice's token; what the slice owns; _4; …; _3; …;
         -- _2; …; _1; …; room for _0; …]
         assigns ! (of-opd ! (load ! (from ! (hop ! (look ! 13 refl) (stop !))) (look-raw ! 0 refl))) (from ! (stop !))
-        (init ! 7 refl (LL.lawful S.the-type S′.the-laws 𝓤 H A W .typed h _ was .0)) $
+        (init ! 7 refl (state-typed 𝓤 H A W h _ was)) $
         -- `frame_call` is called on the copy of the state and on the slice
         move ! (5 ∷ 6 ∷ 1 ∷ []) $ use3 W (raw (Callee 𝓤 H A at-mem run .pre to) ⊛ ‵ Bytes) goes $ split ! $
         calls-at ! fm (Callee 𝓤 H A at-mem run) known to
@@ -166,14 +166,15 @@ module _ {M : Type 1} (𝓤 : URA M) (H : Heap 𝓤) (A : Atoms 𝓤) (W : Given
         -- [what the answer owns; the slice's token; the slice; the state's cell; the open borrow; obs; auth; _4; …; room for _3;
         -- …; _2; …; _1; …; room for _0; …]
         peeks ! B.the-row (Is B.the-row) (shows 𝓤 H A B.the-row) r (v ∷ []) (λ is.
-        land ! (from ! (stop !)) (init ! 9 refl (LL.lawful B.the-type B′.the-laws 𝓤 H A W .typed r _ is .0)) $
+        land ! (from ! (stop !)) (init ! 9 refl (answer-typed 𝓤 H A W r v is)) $
         -- the answer's machine value is written out, so that its fields can be read
-        rewrite ! 9 (λ (us : List Val). ‵ (fat fullShare B′.mir l₃ 0 (only us))) (LL.tells B.the-type B′.the-laws r _ is) refl $
-        assigns ! (of-opd ! (load ! (from ! (fld ! refl (stop !))) (look-in ! 9 (sub ! 0 refl (whole !)))))
+        rewrite ! 9 (λ (us : List Val). ‵ (fat fullShare B′.mir l₃ 0 (only us))) (answer-tells r _ is) refl $
+        assigns ! (of-opd ! (load ! (from ! (fld ! {τ = S′.mir} {d = 0} refl (stop !))) (look-state ! 9 r (whole !))))
         (from ! (hop ! (look ! 13 refl) (stop !)))
-        (store-raw ! 3 refl (LL.lawful S.the-type S′.the-laws 𝓤 H A W .typed (r .state) _ (state-of r _ is) .0)) $
-        assigns ! (of-opd ! (load ! (from ! (fld ! refl (stop !))) (look-in ! 9 (sub ! 1 refl (whole !))))) (from ! (stop !))
-        (init ! 15 refl (LL.lawful O.the-type O′.the-laws 𝓤 H A W .typed (r .outcome) _ (outcome-of r _ is) .0)) $
+        (store-raw ! 3 refl (state-typed 𝓤 H A W (r .state) _ (state-of r _ is))) $
+        assigns ! (of-opd ! (load ! (from ! (fld ! {τ = O′.mir} {d = outcomeAt} refl (stop !))) (look-outcome ! 9 r (whole !))))
+        (from ! (stop !))
+        (init ! 15 refl (outcome-typed 𝓤 H A W (r .outcome) _ (outcome-of r _ is))) $
         -- the borrow is closed at the answer's state, whose facts are made anew
         drop ! $ owned ! S.the-row (Is S.the-row) (LL.makes S.the-type S′.the-plain 𝓤 H A) (r .state) _ (state-of r _ is) $
         move ! (3 ∷ 0 ∷ 4 ∷ 5 ∷ 6 ∷ []) $ closes ! tt S.the-row (r .state) (stateVal (r .state) ∷ []) b o $

@@ -22,7 +22,6 @@ use types.Kit.{Given, ‵, raw, _⊛_, ⋆, some, later, _$_, _∵_, !, qed, by,
 use types.Kit.{fsplit, fjoin, fpick, fpack, suffices, frame, await, done}
 use types.Run.{look, init, forget, stop, from, load, addr, of-opd, and-then, no-more, assigns, land, returns, enter, alloc1}
 use types.Run.{alloc0, params1, pass1, pass0, free1, free0}
-use types.Part.{agg}
 use types.SemTy.{Body}
 use types.Tokens.{lft-new, lft-end}
 use sound.WpLaws.{FmC, fmOf, WpFn-mono}
@@ -54,7 +53,8 @@ use Rattle.area.proofs.outcome.Outcome as O
 use Rattle.area.proofs.outcome.Outcome.Laws as O′
 use Rattle.area.proofs.outcome.Answer as B
 use Rattle.area.proofs.outcome.Answer.Laws as B′
-use Rattle.area.proofs.Values.{stateVal, answerVal, outcome-is, both, answer-is}
+use Rattle.area.proofs.Values.{stateVal, answerVal, state-tells, outcome-tells, state-typed, outcome-typed, answer-typed}
+use Rattle.area.proofs.Values.{agg-answer, outcome-is, both, answer-is}
 use Rattle.area.proofs.lent.frame_lent as callee
 use Rattle.area.proofs.lent.frame_lent.Symbol as callee-def
 use Rattle.area.proofs.lent.frame_lent.Symbol.{name as #lent}
@@ -89,7 +89,7 @@ module _ {M : Type 1} (𝓤 : URA M) (H : Heap 𝓤) (A : Atoms 𝓤) (W : Given
   unfolding partOf
   lies-out l u =
       qed W (‵ (mem S.the-row .lies u l 0) ∷ []) ∵ fpick ! (λ vs. fsplit ! $
-      spelt ! S.the-row (Is S.the-row) (shows 𝓤 H A S.the-row) (LL.vals S.the-type S′.the-laws) (LL.tells S.the-type S′.the-laws) fullShare u vs l 0 $
+      spelt ! S.the-row (Is S.the-row) (shows 𝓤 H A S.the-row) (λ w. stateVal w ∷ []) state-tells fullShare u vs l 0 $
       use1 W (‵ (fat fullShare S′.mir l 0 (stateVal u))) (W .laws .raw-at fullShare S′.mir l 0 (stateVal u)) $ join ! $ done !)
 
 module _ {M : Type 1} (𝓤 : URA M) (H : Heap 𝓤) (A : Atoms 𝓤) (W : Given 𝓤 H A) (at-mem : Memory → SProp 𝓤) (run : Routine → Fun 𝓤) (κ : Lft)
@@ -150,11 +150,11 @@ module _ {M : Type 1} (𝓤 : URA M) (H : Heap 𝓤) (A : Atoms 𝓤) (W : Given
         qed W ((‵ (flft κ q) ⊛ ‵ ftrue) ∷ ‵ (owns (S.the-row ∷ ShrSlice (named 0) κ u8 ∷ []) (h, (y, tt)) at) ∷ []) ∵ enter ! C Λ code.function
         (stateVal h ∷ s ∷ []) _ $
         alloc1 ! (λ l₀. alloc1 ! (λ l₁. alloc1 ! (λ l₂. alloc1 ! (λ l₃. alloc1 ! (λ l₄. alloc1 ! (λ l₅. alloc1 ! (λ l₆. alloc0 ! $ params1 ! $
-        pass1 ! (init ! 10 refl (LL.lawful S.the-type S′.the-laws 𝓤 H A W .typed h _ was .0)) $
+        pass1 ! (init ! 10 refl (state-typed 𝓤 H A W h _ was)) $
         pass1 ! (init ! 8 refl (tt, (tt, (record { fits = room .0 }, tt)))) $ pass0 ! $
         -- [_6; …; _5; …; _4; …; _3; …; _2; …; _1; …; room for _0; …; the token; what the state and the slice own]
         assigns ! (of-opd ! (load ! (from ! (stop !)) (look ! 10 refl))) (from ! (stop !))
-        (init ! 6 refl (LL.lawful S.the-type S′.the-laws 𝓤 H A W .typed h _ was .0)) $
+        (init ! 6 refl (state-typed 𝓤 H A W h _ was)) $
         assigns ! (addr ! (from ! (stop !))) (from ! (stop !)) (init ! 2 refl (tt, tt)) $
         -- the local is lent for a lifetime ν of the call
         move ! (6 ∷ []) $ use1 W (‵ (mem S.the-row .lies h l₃ 0)) (lies-in 𝓤 H A W l₃ h was) $ lft-new ! tt (λ ν. move ! (1 ∷ []) $
@@ -187,8 +187,8 @@ module _ {M : Type 1} (𝓤 : URA M) (H : Heap 𝓤) (A : Atoms 𝓤) (W : Given
         -- [what the outcome owns; the tokens; the last state; …; the slice; the lender's part; _6; …; _5; …; room for _4; …; what
         -- frees _3; _2; …; _1; …; room for _0; …]
         peeks ! O.the-row (Is O.the-row) (shows 𝓤 H A O.the-row) r (v ∷ []) (λ is.
-        land ! (from ! (stop !)) (init ! 10 refl (LL.lawful O.the-type O′.the-laws 𝓤 H A W .typed r _ is .0)) $
-        rewrite ! 10 (λ (us : List Val). ‵ (fat fullShare O′.mir l₄ 0 (only us))) (LL.tells O.the-type O′.the-laws r _ is) refl $
+        land ! (from ! (stop !)) (init ! 10 refl (outcome-typed 𝓤 H A W r v is)) $
+        rewrite ! 10 (λ (us : List Val). ‵ (fat fullShare O′.mir l₄ 0 (only us))) (outcome-tells r _ is) refl $
         -- the lifetime is ended, and the local comes back at the last state
         move ! (1 ∷ []) $ split ! $ lft-end ! tt $ move ! (0 ∷ 6 ∷ 3 ∷ []) $
         use3 W (later (‵ (mem S.the-row .lies (zs .0) l₃ 0))) (ref-back 𝓤 H A W S.the-row (ν ∷ []) δ (zs .0) l₃ 0) $ await ! tt $
@@ -198,11 +198,12 @@ module _ {M : Type 1} (𝓤 : URA M) (H : Heap 𝓤) (A : Atoms 𝓤) (W : Given
         -- [what the state owns; _3; the slice's token; what the outcome owns; …; the slice; _6; …; _5; …; _4; …; what frees _3;
         -- _2; …; _1; …; room for _0; …]
         assigns ! (of-opd ! (load ! (from ! (stop !)) (look ! 1 refl))) (from ! (stop !))
-        (init ! 6 refl (LL.lawful S.the-type S′.the-laws 𝓤 H A W .typed (zs .0) _ left .0)) $
+        (init ! 6 refl (state-typed 𝓤 H A W (zs .0) _ left)) $
         assigns !
-        (agg ! (and-then ! (load ! (from ! (stop !)) (look ! 6 refl)) (and-then ! (load ! (from ! (stop !)) (look ! 10 refl)) (no-more !))))
+        (agg-answer ! (zs .0) r
+        (and-then ! (load ! (from ! (stop !)) (look ! 6 refl)) (and-then ! (load ! (from ! (stop !)) (look ! 10 refl)) (no-more !))))
         (from ! (stop !))
-        (init ! 17 refl (LL.lawful B.the-type B′.the-laws 𝓤 H A W .typed (both (zs .0) r) _ (answer-is (zs .0) r left (outcome-is r _ is)) .0)) $
+        (init ! 17 refl (answer-typed 𝓤 H A W (both (zs .0) r) _ (answer-is (zs .0) r left (outcome-is r _ is)))) $
         returns ! (look ! 17 refl) $ forget ! 1 refl $ forget ! 6 refl $ forget ! 8 refl $ forget ! 10 refl $ forget ! 13 refl $ forget ! 15 refl $
         forget ! 17 refl $
         move ! (17 ∷ 18 ∷ []) $ free1 ! $ move ! (15 ∷ 16 ∷ []) $ free1 ! $ move ! (13 ∷ 14 ∷ []) $ free1 ! $ move ! (1 ∷ 12 ∷ []) $ free1 ! $
@@ -213,7 +214,7 @@ module _ {M : Type 1} (𝓤 : URA M) (H : Heap 𝓤) (A : Atoms 𝓤) (W : Given
   caller-walks : (C : Calls 𝓤 H) (Λ : Loops 𝓤 H) → FmC 𝓤 H (W .laws) C → Triple 𝓤 (C #lent) (Callee 𝓤 H A mem run)
       → Walks 𝓤 H A caller.ended stayed (WpFn 𝓤 H C Λ code.function) (caller.clauses 𝓤 H A mem run)
   caller-walks C Λ fm known = walked 𝓤 H A caller.ended stayed (caller.clauses 𝓤 H A mem run) (WpFn 𝓤 H C Λ code.function)
-      (λ κs. (LL.vals S.the-type S′.the-laws, (slice-vals, tt))) (λ κs. (LL.tells S.the-type S′.the-laws, (shr-slice-tells (named 0) (κs .0) u8, tt)))
+      (λ κs. ((λ w. stateVal w ∷ []), (slice-vals, tt))) (λ κs. (state-tells, (shr-slice-tells (named 0) (κs .0) u8, tt)))
       (λ κs qs bounds a _ are. via 𝓤 _ (fst∗ 𝓤 _ (emp 𝓤))
       (walk 𝓤 H A W mem run (κs .0) (qs .0) (a .0) (a .1 .0) C Λ fm known (are .0) (are .1 .0 .0 .1)))
 

@@ -1,5 +1,8 @@
+use mathlib.Core.Path.{sym, ap, _∙_}
 use borrow.Author.Needs.{needs}
+use lib.Ieee.{binary32, ofBits}
 use Rattle.area.specs.Sweep.{shownBy}
+use Rattle.area.specs.Frame.{numberNo}
 use Rattle.area.specs.Checks.{isHeeded, isShown, shows2, shows3, shows4, shows5}
 use Rattle.area.proofs.SweepLaws.{or-false}
 use Rattle.area.proofs.sweep.factor.Statement.{statement}
@@ -8,16 +11,22 @@ use Rattle.area.proofs.sweep.factor.Tie as tie
 number-at-requires : tie.Need-number-at-requires
 number-at-requires c κs = search needs
 
-exceeds-limit-requires : tie.Need-exceeds-limit-requires
-exceeds-limit-requires c κs = search needs
+word-at-requires : tie.Need-word-at-requires
+word-at-requires c κs = search needs
+
+word-exceeds-limit-requires : tie.Need-word-exceeds-limit-requires
+word-exceeds-limit-requires c κs = search needs
 
 with-number-requires : tie.Need-with-number-requires
 with-number-requires c κs = search needs
 
 returns : tie.Need-returns
-unfolding shownBy isHeeded isShown shows2 shows3 shows4 shows5
-returns c = rw (← c .before .before .number-at .ensures, ← c .before .exceeds-limit .ensures) (simp or-false (rw (← c .with-number .ensures)))
+unfolding numberNo shownBy isHeeded isShown shows2 shows3 shows4 shows5
+returns c =
+    let word-is = c .before .before .word-at .ensures in
+    let x-is = c .before .before .before .number-at .ensures ∙ ap (ofBits binary32) (sym word-is) in
+    rw (← word-is, ← c .before .word-exceeds-limit .ensures, ← x-is) (simp or-false (rw (← c .with-number .ensures)))
 
 pub factor-spec : {M : Type 1} → statement M
 factor-spec =
-    tie.close (tie.spec number-at-requires exceeds-limit-requires with-number-requires returns)
+    tie.close (tie.spec number-at-requires word-at-requires word-exceeds-limit-requires with-number-requires returns)
