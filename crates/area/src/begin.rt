@@ -4,6 +4,7 @@ ghost use Prim.Native.Nat.{_<_};
 ghost use Rattle.area.specs.Frame.{Whole, frameOf};
 ghost use Rattle.area.specs.Begin as Spec;
 use crate::axis_physics::physics_of;
+use crate::copies::copy_of_motion;
 use crate::drive::AxisInput;
 use crate::drive::before_of;
 use crate::drive::drive;
@@ -120,7 +121,7 @@ fn begin_axis(
         dt,
         hold_overscroll: hold,
     };
-    let driven = drive(motion, physics, input);
+    let driven = drive(copy_of_motion(motion), physics, input);
     follow(driven, host_words::time(frame), dt)
 }
 

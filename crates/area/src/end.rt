@@ -8,6 +8,8 @@ use crate::adjust::adjust_axis;
 use crate::bar::Barred;
 use crate::bar::HandleRect;
 use crate::bar::bar_axis;
+use crate::copies::copy_of_motion;
+use crate::copies::copy_of_target;
 use crate::drive::before_of;
 use crate::extent::AxisExtent;
 use crate::extent::extent_of;
@@ -122,7 +124,7 @@ fn end_axis(
     requires { ⌜ Whole (now frame) × (d < 2) × (e < 2) ⌝ }
     ensures { λ r. ⌜ r ≡ Spec.axisEndedOf (frameOf (now (frame .entry))) d e before space extents wheel begun ⌝ }
 {
-    let adjusted = adjust_axis(frame, d, space, begun.motion);
+    let adjusted = adjust_axis(frame, d, space, copy_of_motion(begun.motion));
     let turned = turn_axis(
         frame,
         d,
@@ -187,7 +189,8 @@ fn ended_of(
 ) -> AxisEnded
     ensures { λ r. ⌜ r ≡ Spec.endedBy explicit turned show barred settled ⌝ }
 {
-    let offset_target = barred.motion.offset_target;
+    let target = barred.motion.offset_target;
+    let offset_target = copy_of_target(target);
     let press = barred.press;
     let handle = barred.handle;
     AxisEnded {

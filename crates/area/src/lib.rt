@@ -6,6 +6,7 @@ mod begin;
 mod call;
 mod checks;
 mod content_words;
+mod copies;
 mod decode;
 mod drive;
 mod end;

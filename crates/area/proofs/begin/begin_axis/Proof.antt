@@ -30,18 +30,21 @@ pointer-delta-requires c κs = search needs
 pointer-velocity-requires : tie.Need-pointer-velocity-requires
 pointer-velocity-requires c κs = search needs
 
+copy-of-motion-requires : tie.Need-copy-of-motion-requires
+copy-of-motion-requires c κs = search needs
+
 drive-requires : tie.Need-drive-requires
 drive-requires c κs = search needs
 
 time-requires : tie.Need-time-requires
-time-requires c κs = search needs
+time-requires c κs = search (needs, c .before .before .before .before .before .before .before .before .before .before .before .before .pre)
 
 follow-requires : tie.Need-follow-requires
 follow-requires c κs = search needs
 
 returns : tie.Need-returns
 unfolding begunFrom lastPhysicsOf inputOf
-returns c = rw (← c .before .before .before .before .before .before .before .before .before .before .before .direction-enabled .ensures, ← c .before .before .before .before .before .before .before .before .before .before .stable-dt .ensures, ← c .before .before .before .before .before .before .before .before .before .dt-of .ensures, ← c .before .before .before .before .before .before .before .before .kinetic .ensures, ← c .before .before .before .before .before .before .before .physics-of .ensures, ← c .before .before .before .before .before .before .dragged .ensures, ← c .before .before .before .before .before .drag-stopped .ensures, ← c .before .before .before .before .pointer-delta .ensures, ← c .before .before .before .pointer-velocity .ensures, ← c .before .before .drive .ensures, ← c .before .time .ensures, ← c .follow .ensures)
+returns c = rw (← c .before .before .before .before .before .before .before .before .before .before .before .before .direction-enabled .ensures, ← c .before .before .before .before .before .before .before .before .before .before .before .stable-dt .ensures, ← c .before .before .before .before .before .before .before .before .before .before .dt-of .ensures, ← c .before .before .before .before .before .before .before .before .before .kinetic .ensures, ← c .before .before .before .before .before .before .before .before .physics-of .ensures, ← c .before .before .before .before .before .before .before .dragged .ensures, ← c .before .before .before .before .before .before .drag-stopped .ensures, ← c .before .before .before .before .before .pointer-delta .ensures, ← c .before .before .before .before .pointer-velocity .ensures, ← c .before .before .before .copy-of-motion .ensures, ← c .before .before .drive .ensures, ← c .before .time .ensures, ← c .follow .ensures)
 
 pub begin-axis-spec : {M : Type 1} → statement M
 begin-axis-spec =
@@ -56,6 +59,7 @@ begin-axis-spec =
     drag-stopped-requires
     pointer-delta-requires
     pointer-velocity-requires
+    copy-of-motion-requires
     drive-requires
     time-requires
     follow-requires
