@@ -1,4 +1,5 @@
-// A frame: what the host hands in, decoded. Settings, style, host and content, in the order of the words.
+// A frame: what the host hands in, decoded. Settings, style, host and content, in the order of the words. The definitions
+// speak of it; the code reads each field from its words.
 use crate::state::MaybeRect;
 use axis::KineticScrollStyle;
 use axis::WheelSource;
