@@ -118,23 +118,21 @@ stateOf s = record {
 abbrev pub isNoFlag : List ℕ → ℕ → Bool
 isNoFlag s n = ltb 1 (wordNo s n)
 
+-- either of two
+abbrev pub isNoFlags : List ℕ → ℕ → ℕ → Bool
+isNoFlags s m n = isNoFlag s m || isNoFlag s n
+
+-- the flags in a state's record, as stateWords has them: both targets', three pairs, both presses', a pair, the rectangle's, a pair
 unfoldable pub isDamaged : List ℕ → Bool
 isDamaged s =
-    isNoFlag s 5
-    || isNoFlag s 11
-    || isNoFlag s 17
-    || isNoFlag s 18
-    || isNoFlag s 19
-    || isNoFlag s 20
-    || isNoFlag s 21
-    || isNoFlag s 22
-    || isNoFlag s 25
-    || isNoFlag s 27
-    || isNoFlag s 29
-    || isNoFlag s 30
+    isNoFlags s 5 11
+    || isNoFlags s 17 18
+    || isNoFlags s 19 20
+    || isNoFlags s 21 22
+    || isNoFlags s 25 27
+    || isNoFlags s 29 30
     || isNoFlag s 31
-    || isNoFlag s 36
-    || isNoFlag s 37
+    || isNoFlags s 36 37
 
 -- ---- what holds of every state in the code: each pair is two, and each number is one that its format holds
 abbrev pub Is32 : Float → Type 0

@@ -24,16 +24,12 @@ pub extern "C" fn strakobud_frame(state: &mut [u8; 148], frame: &[u8], out: &mut
         return damaged_refusal(frame);
     }
     let a = area::frame_call(state_of(state), frame);
-    let o = a.outcome;
-    let refusal = o.refusal;
-    let accepted = refusal == 0;
-    if accepted {
-        let s = a.state;
-        put_state(state, s);
-        put_outcome(out, o);
+    if a.outcome.refusal == 0 {
+        put_state(state, a.state);
+        put_outcome(out, a.outcome);
         return 0;
     }
-    refusal
+    a.outcome.refusal
 }
 
 // The lowest of checks 1 to 5 that applies, or 6.

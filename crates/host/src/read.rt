@@ -16,9 +16,10 @@ use area::pair_at;
 use area::time_at;
 use area::word_at;
 
-pub fn state_of(s: &[u8; 148]) -> State
-    ensures { λ r. ⌜ r ≡ Spec.stateOf (now (s .entry)) ⌝ }
+pub fn state_of(bytes: &[u8; 148]) -> State
+    ensures { λ r. ⌜ r ≡ Spec.stateOf (now (bytes .entry)) ⌝ }
 {
+    let s: &[u8] = bytes;
     State {
         offset: pair_at(s, 1),
         max_offset: pair_at(s, 3),
@@ -34,45 +35,35 @@ pub fn state_of(s: &[u8; 148]) -> State
     }
 }
 
-fn maybe_target_at(s: &[u8; 148], n: u32) -> MaybeTarget
-    requires { ⌜ Holds (now s) n 5 ⌝ }
-    ensures { λ r. ⌜ r ≡ Spec.maybeTargetNo (now (s .entry)) n ⌝ }
-{
-    if flag_at(s, n) {
-        return MaybeTarget::Toward(ScrollingToTarget {
-            start: time_at(s, n + 1),
-            end: time_at(s, n + 3),
-            target_offset: number_at(s, n + 5),
-        });
-    }
-    MaybeTarget::Nothing
-}
-
-fn offset_target_at(s: &[u8; 148], n: u32) -> OffsetTarget
+fn offset_target_at(s: &[u8], n: u32) -> OffsetTarget
     requires { ⌜ Holds (now s) n 5 ⌝ }
     ensures { λ r. ⌜ r ≡ Spec.offsetTargetNo (now (s .entry)) n ⌝ }
 {
-    OffsetTarget {
-        target: maybe_target_at(s, n),
-    }
-}
-
-fn maybe_press_at(s: &[u8; 148], n: u32) -> MaybePress
-    requires { ⌜ Holds (now s) n 1 ⌝ }
-    ensures { λ r. ⌜ r ≡ Spec.maybePressNo (now (s .entry)) n ⌝ }
-{
     if flag_at(s, n) {
-        return MaybePress::At(number_at(s, n + 1));
+        return OffsetTarget {
+            target: MaybeTarget::Toward(ScrollingToTarget {
+                start: time_at(s, n + 1),
+                end: time_at(s, n + 3),
+                target_offset: number_at(s, n + 5),
+            }),
+        };
     }
-    MaybePress::Nothing
+    OffsetTarget {
+        target: MaybeTarget::Nothing,
+    }
 }
 
-fn start_offset_at(s: &[u8; 148], n: u32) -> StartOffset
+fn start_offset_at(s: &[u8], n: u32) -> StartOffset
     requires { ⌜ Holds (now s) n 1 ⌝ }
     ensures { λ r. ⌜ r ≡ Spec.startOffsetNo (now (s .entry)) n ⌝ }
 {
+    if flag_at(s, n) {
+        return StartOffset {
+            press: MaybePress::At(number_at(s, n + 1)),
+        };
+    }
     StartOffset {
-        press: maybe_press_at(s, n),
+        press: MaybePress::Nothing,
     }
 }
 
@@ -83,23 +74,25 @@ pub fn is_no_flag(s: &[u8], n: u32) -> bool
     1 < word_at(s, n)
 }
 
-// A flag of a state that is not 0 or 1.
-pub fn is_damaged(s: &[u8; 148]) -> bool
-    ensures { λ r. ⌜ r ≡ Spec.isDamaged (now (s .entry)) ⌝ }
+// Either of two.
+pub fn is_no_flags(s: &[u8], m: u32, n: u32) -> bool
+    requires { ⌜ Holds (now s) m 0 × Holds (now s) n 0 ⌝ }
+    ensures { λ r. ⌜ r ≡ Spec.isNoFlags (now (s .entry)) m n ⌝ }
 {
-    is_no_flag(s, 5)
-        | is_no_flag(s, 11)
-        | is_no_flag(s, 17)
-        | is_no_flag(s, 18)
-        | is_no_flag(s, 19)
-        | is_no_flag(s, 20)
-        | is_no_flag(s, 21)
-        | is_no_flag(s, 22)
-        | is_no_flag(s, 25)
-        | is_no_flag(s, 27)
-        | is_no_flag(s, 29)
-        | is_no_flag(s, 30)
+    is_no_flag(s, m) | is_no_flag(s, n)
+}
+
+// A flag of a state that is not 0 or 1.
+pub fn is_damaged(bytes: &[u8; 148]) -> bool
+    ensures { λ r. ⌜ r ≡ Spec.isDamaged (now (bytes .entry)) ⌝ }
+{
+    let s: &[u8] = bytes;
+    is_no_flags(s, 5, 11)
+        | is_no_flags(s, 17, 18)
+        | is_no_flags(s, 19, 20)
+        | is_no_flags(s, 21, 22)
+        | is_no_flags(s, 25, 27)
+        | is_no_flags(s, 29, 30)
         | is_no_flag(s, 31)
-        | is_no_flag(s, 36)
-        | is_no_flag(s, 37)
+        | is_no_flags(s, 36, 37)
 }

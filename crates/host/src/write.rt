@@ -1,11 +1,9 @@
 // A state, and what a frame puts out besides it, written into bytes. An absent option is zeros.
 ghost use mathlib.Core.Path.{_≡_};
 ghost use Prim.Native.Nat.{_+_, _*_, _/_, _%_, _≤_};
-ghost use mathlib.Core.List.{[], _∷_};
 ghost use lib.ListN.{length};
 ghost use Rattle.words.specs.Words.{bytesOf, putAt};
 ghost use Rattle.host.specs.Record as Spec;
-use area::HandleRect;
 use area::MaybePress;
 use area::MaybeRect;
 use area::MaybeTarget;
@@ -21,28 +19,28 @@ pub fn put_state(bytes: &mut [u8; 148], s: State)
     ensures { λ _. ⌜ now (bytes .exit) ≡ bytesOf (Spec.stateWords s) ⌝ }
 {
     let offset = s.offset;
-    let max_offset = s.max_offset;
-    let targets = s.offset_target;
-    let shown = s.show_scroll;
-    let too_large = s.content_is_too_large;
-    let interaction = s.scroll_bar_interaction;
-    let vel = s.vel;
-    let presses = s.scroll_start_offset_from_top_left;
-    let stuck = s.scroll_stuck_to_end;
-    let rect = s.interact_rect;
-    let bounced = s.bounced_this_momentum;
     put_numbers(bytes, 0, offset);
+    let max_offset = s.max_offset;
     put_numbers(bytes, 2, max_offset);
+    let targets = s.offset_target;
     put_target(bytes, 4, targets[0]);
     put_target(bytes, 10, targets[1]);
+    let shown = s.show_scroll;
     put_flags(bytes, 16, shown);
+    let too_large = s.content_is_too_large;
     put_flags(bytes, 18, too_large);
+    let interaction = s.scroll_bar_interaction;
     put_flags(bytes, 20, interaction);
+    let vel = s.vel;
     put_numbers(bytes, 22, vel);
+    let presses = s.scroll_start_offset_from_top_left;
     put_press(bytes, 24, presses[0]);
     put_press(bytes, 26, presses[1]);
+    let stuck = s.scroll_stuck_to_end;
     put_flags(bytes, 28, stuck);
+    let rect = s.interact_rect;
     put_maybe_rect(bytes, 30, rect);
+    let bounced = s.bounced_this_momentum;
     put_flags(bytes, 35, bounced);
 }
 
@@ -50,19 +48,21 @@ pub fn put_outcome(bytes: &mut [u8; 100], o: Outcome)
     ensures { λ _. ⌜ now (bytes .exit) ≡ bytesOf (Spec.outWords o) ⌝ }
 {
     let size = o.content_size;
-    let inner_rect = o.inner_rect;
-    let viewport = o.viewport;
-    let handles = o.handles;
-    let wheel = o.wheel_delta_left;
-    let scroll = o.scroll_delta_left;
     put_numbers(bytes, 0, size);
-    put_rect(bytes, 2, inner_rect);
-    put_rect(bytes, 6, viewport);
-    put_handle(bytes, 10, handles[0]);
-    put_handle(bytes, 15, handles[1]);
+    put_rect(bytes, 2, o.inner_rect);
+    put_rect(bytes, 6, o.viewport);
+    let handles = o.handles;
+    let first = handles[0];
+    let rect = first.rect;
+    put_maybe_rect(bytes, 10, rect);
+    let second = handles[1];
+    let rect = second.rect;
+    put_maybe_rect(bytes, 15, rect);
+    let wheel = o.wheel_delta_left;
     put_numbers(bytes, 20, wheel);
+    let scroll = o.scroll_delta_left;
     put_numbers(bytes, 22, scroll);
-    put_flag(bytes, 24, o.repaint);
+    words::put(bytes, 24, &[flag_word(o.repaint)]);
 }
 
 pub fn put_numbers(bytes: &mut [u8], at: usize, v: [f32; 2])
@@ -70,13 +70,6 @@ pub fn put_numbers(bytes: &mut [u8], at: usize, v: [f32; 2])
     ensures { λ _. ⌜ now (bytes .exit) ≡ putAt at (Spec.numberWords v) (now (bytes .entry)) ⌝ }
 {
     words::put(bytes, at, &[bits_of_f32(v[0]), bits_of_f32(v[1])]);
-}
-
-fn put_flag(bytes: &mut [u8], at: usize, b: bool)
-    requires { ⌜ 4 * at + 4 ≤ length (now bytes) ⌝ }
-    ensures { λ _. ⌜ now (bytes .exit) ≡ putAt at (Spec.flagWord b ∷ []) (now (bytes .entry)) ⌝ }
-{
-    words::put(bytes, at, &[flag_word(b)]);
 }
 
 fn put_flags(bytes: &mut [u8], at: usize, v: [bool; 2])
@@ -106,7 +99,16 @@ fn put_rect(bytes: &mut [u8], at: usize, r: Rect)
     requires { ⌜ 4 * at + 16 ≤ length (now bytes) ⌝ }
     ensures { λ _. ⌜ now (bytes .exit) ≡ putAt at (Spec.rectWords r) (now (bytes .entry)) ⌝ }
 {
-    words::put(bytes, at, &rect_words(r));
+    words::put(
+        bytes,
+        at,
+        &[
+            bits_of_f32(r.min.x),
+            bits_of_f32(r.min.y),
+            bits_of_f32(r.max.x),
+            bits_of_f32(r.max.y),
+        ],
+    );
 }
 
 fn put_maybe_rect(bytes: &mut [u8], at: usize, r: MaybeRect)
@@ -114,14 +116,6 @@ fn put_maybe_rect(bytes: &mut [u8], at: usize, r: MaybeRect)
     ensures { λ _. ⌜ now (bytes .exit) ≡ putAt at (Spec.maybeRectWords r) (now (bytes .entry)) ⌝ }
 {
     words::put(bytes, at, &maybe_rect_words(r));
-}
-
-fn put_handle(bytes: &mut [u8], at: usize, h: HandleRect)
-    requires { ⌜ 4 * at + 20 ≤ length (now bytes) ⌝ }
-    ensures { λ _. ⌜ now (bytes .exit) ≡ putAt at (Spec.maybeRectWords (h .rect)) (now (bytes .entry)) ⌝ }
-{
-    let rect = h.rect;
-    put_maybe_rect(bytes, at, rect);
 }
 
 pub fn flag_word(b: bool) -> u32
@@ -166,25 +160,19 @@ fn press_words(press: MaybePress) -> [u32; 2]
     }
 }
 
-fn rect_words(r: Rect) -> [u32; 4]
-    ensures { λ w. ⌜ w ≡ Spec.rectWords r ⌝ }
-{
-    [
-        bits_of_f32(r.min.x),
-        bits_of_f32(r.min.y),
-        bits_of_f32(r.max.x),
-        bits_of_f32(r.max.y),
-    ]
-}
-
 fn maybe_rect_words(r: MaybeRect) -> [u32; 5]
     ensures { λ w. ⌜ w ≡ Spec.maybeRectWords r ⌝ }
 {
     match r {
         MaybeRect::Nothing => [0, 0, 0, 0, 0],
         MaybeRect::Some(r) => {
-            let w = rect_words(r);
-            [1, w[0], w[1], w[2], w[3]]
+            [
+                1,
+                bits_of_f32(r.min.x),
+                bits_of_f32(r.min.y),
+                bits_of_f32(r.max.x),
+                bits_of_f32(r.max.y),
+            ]
         }
     }
 }

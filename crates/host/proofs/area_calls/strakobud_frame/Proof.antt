@@ -1,4 +1,5 @@
 use borrow.Author.Needs.{needs}
+use borrow.Author.Tests.{eq-eqb, ne-eqb}
 use Rattle.host.specs.Calls.{frameOn}
 use Rattle.host.proofs.area_calls.strakobud_frame.Statement.{statement}
 use Rattle.host.proofs.area_calls.strakobud_frame.Tie as tie
@@ -29,11 +30,11 @@ returns-2 : tie.Need-returns-2
 unfolding frameOn
 returns-2 c =
     rw (
-      ← c .before .before .before .before .before .before .before .before .before .before .before .is-damaged .ensures,
-      c .before .before .before .before .before .before .before .before .before .before .if1 .left,
-      ← c .before .before .before .before .before .before .before .before .state-of .ensures,
-      ← c .before .before .before .before .before .before .before .frame-call .ensures,
-      c .before .before .before .before .before .if2 .taken,
+      ← c .before .before .before .before .before .before .before .before .before .before .is-damaged .ensures,
+      c .before .before .before .before .before .before .before .before .before .if1 .left,
+      ← c .before .before .before .before .before .before .before .state-of .ensures,
+      ← c .before .before .before .before .before .before .frame-call .ensures,
+      eq-eqb (c .before .before .before .before .before .before .frame-call .result .outcome .refusal) 0 (c .before .before .before .before .if2 .taken),
       c .before .before .put-state .ensures,
       c .put-outcome .ensures,
     )
@@ -46,7 +47,7 @@ returns-3 c =
       c .before .before .before .before .before .if1 .left,
       ← c .before .before .before .state-of .ensures,
       ← c .before .before .frame-call .ensures,
-      c .if2 .left,
+      ne-eqb (c .before .before .frame-call .result .outcome .refusal) 0 (c .if2 .left),
     )
 
 pub strakobud-frame-spec : {M : Type 1} → statement M

@@ -17,8 +17,8 @@ drag-requires c κs = search needs
 returns : tie.Need-returns
 returns c =
     rw (
-      ← c .before .before .before .before .before .axis-of .ensures,
-      ← c .before .before .before .number-at .ensures,
+      ← c .before .before .before .axis-of .ensures,
+      ← c .before .before .number-at .ensures,
       ← c .before .number-at2 .ensures,
       ← c .drag .ensures,
     )

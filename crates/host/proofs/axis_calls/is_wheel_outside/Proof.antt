@@ -17,9 +17,9 @@ is-no-flag-requires-3 c κs = search needs
 returns : tie.Need-returns
 returns c =
     rw (
-      ← c .before .before .before .before .before .before .is-no-flag .ensures,
-      ← c .before .before .before .before .word-at .ensures,
-      ← c .before .before .is-no-flag2 .ensures,
+      ← c .before .before .before .is-no-flag .ensures,
+      ← c .before .before .word-at .ensures,
+      ← c .before .is-no-flag2 .ensures,
       ← c .is-no-flag3 .ensures,
     )
 

@@ -19,9 +19,9 @@ returns : tie.Need-returns
 unfolding scrollOf
 returns c =
     rw (
-      ← c .before .before .before .before .before .before .number-at .ensures,
-      ← c .before .before .before .before .source-at .ensures,
-      ← c .before .before .flag-at .ensures,
+      ← c .before .before .before .number-at .ensures,
+      ← c .before .before .source-at .ensures,
+      ← c .before .flag-at .ensures,
       ← c .number-at2 .ensures,
     )
 

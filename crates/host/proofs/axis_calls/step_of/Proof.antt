@@ -23,10 +23,10 @@ step-requires c κs = search needs
 returns : tie.Need-returns
 returns c =
     rw (
-      ← c .before .before .before .before .before .before .before .before .before .axis-of .ensures,
-      ← c .before .before .before .before .before .before .before .number-at .ensures,
-      ← c .before .before .before .before .before .number-at2 .ensures,
-      ← c .before .before .before .number-at3 .ensures,
+      ← c .before .before .before .before .before .axis-of .ensures,
+      ← c .before .before .before .before .number-at .ensures,
+      ← c .before .before .before .number-at2 .ensures,
+      ← c .before .before .number-at3 .ensures,
       ← c .before .flag-at .ensures,
       ← c .step .ensures,
     )

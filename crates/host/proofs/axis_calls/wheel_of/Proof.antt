@@ -23,10 +23,10 @@ wheel-requires c κs = search needs
 returns : tie.Need-returns
 returns c =
     rw (
-      ← c .before .before .before .before .before .before .before .before .axis-of .ensures,
-      ← c .before .before .before .before .before .before .number-at .ensures,
-      ← c .before .before .before .before .number-at2 .ensures,
-      ← c .before .before .before .scroll-of .ensures,
+      ← c .before .before .before .before .before .axis-of .ensures,
+      ← c .before .before .before .before .number-at .ensures,
+      ← c .before .before .before .number-at2 .ensures,
+      ← c .before .before .scroll-of .ensures,
       ← c .before .flag-at .ensures,
       ← c .wheel .ensures,
     )

@@ -1,3 +1,4 @@
+use native.Mathlib.Omega.{arith}
 use borrow.Author.Needs.{needs}
 use Rattle.host.specs.Record.{stateOf}
 use Rattle.host.proofs.read.state_of.Statement.{statement}
@@ -40,36 +41,24 @@ maybe-rect-at-requires : tie.Need-maybe-rect-at-requires
 maybe-rect-at-requires c κs = search needs
 
 flags-at-requires-5 : tie.Need-flags-at-requires-5
-flags-at-requires-5 c κs = search needs
+flags-at-requires-5 c κs = omega (arith, c .before .before .before .before .before .before .before .before .before .before .before .before .s .given)
 
 returns : tie.Need-returns
 unfolding stateOf
 returns c =
-    let at-maybe-rect-at = c .before .before in
-    let at-flags-at4 = at-maybe-rect-at .before .before in
-    let at-start-offset-at2 = at-flags-at4 .before .before in
-    let at-start-offset-at = at-start-offset-at2 .before in
-    let at-pair-at3 = at-start-offset-at .before in
-    let at-flags-at3 = at-pair-at3 .before .before in
-    let at-flags-at2 = at-flags-at3 .before .before in
-    let at-flags-at = at-flags-at2 .before .before in
-    let at-offset-target-at2 = at-flags-at .before .before in
-    let at-offset-target-at = at-offset-target-at2 .before in
-    let at-pair-at2 = at-offset-target-at .before in
-    let at-pair-at = at-pair-at2 .before .before in
     rw (
-      ← at-pair-at .pair-at .ensures,
-      ← at-pair-at2 .pair-at2 .ensures,
-      ← at-offset-target-at .offset-target-at .ensures,
-      ← at-offset-target-at2 .offset-target-at2 .ensures,
-      ← at-flags-at .flags-at .ensures,
-      ← at-flags-at2 .flags-at2 .ensures,
-      ← at-flags-at3 .flags-at3 .ensures,
-      ← at-pair-at3 .pair-at3 .ensures,
-      ← at-start-offset-at .start-offset-at .ensures,
-      ← at-start-offset-at2 .start-offset-at2 .ensures,
-      ← at-flags-at4 .flags-at4 .ensures,
-      ← at-maybe-rect-at .maybe-rect-at .ensures,
+      ← c .before .before .before .before .before .before .before .before .before .before .before .before .pair-at .ensures,
+      ← c .before .before .before .before .before .before .before .before .before .before .before .pair-at2 .ensures,
+      ← c .before .before .before .before .before .before .before .before .before .before .offset-target-at .ensures,
+      ← c .before .before .before .before .before .before .before .before .before .offset-target-at2 .ensures,
+      ← c .before .before .before .before .before .before .before .before .flags-at .ensures,
+      ← c .before .before .before .before .before .before .before .flags-at2 .ensures,
+      ← c .before .before .before .before .before .before .flags-at3 .ensures,
+      ← c .before .before .before .before .before .pair-at3 .ensures,
+      ← c .before .before .before .before .start-offset-at .ensures,
+      ← c .before .before .before .start-offset-at2 .ensures,
+      ← c .before .before .flags-at4 .ensures,
+      ← c .before .maybe-rect-at .ensures,
       ← c .flags-at5 .ensures,
     )
 

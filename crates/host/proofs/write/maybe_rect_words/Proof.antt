@@ -8,26 +8,30 @@ enum-told c = search needs
 enum-known-r : tie.Need-enum-known-r
 enum-known-r c = search needs
 
-rect-words-requires : tie.Need-rect-words-requires
-rect-words-requires c κs = search needs
+bits-of-f32-requires : tie.Need-bits-of-f32-requires
+bits-of-f32-requires c κs = search needs
 
-array-read-t8 : tie.Need-array-read-t8
-array-read-t8 c = search needs
+bits-of-f32-requires-2 : tie.Need-bits-of-f32-requires-2
+bits-of-f32-requires-2 c κs = search needs
 
-array-read-t11 : tie.Need-array-read-t11
-array-read-t11 c = search needs
+bits-of-f32-requires-3 : tie.Need-bits-of-f32-requires-3
+bits-of-f32-requires-3 c κs = search needs
 
-array-read-t14 : tie.Need-array-read-t14
-array-read-t14 c = search needs
-
-array-read-t17 : tie.Need-array-read-t17
-array-read-t17 c = search needs
+bits-of-f32-requires-4 : tie.Need-bits-of-f32-requires-4
+bits-of-f32-requires-4 c κs = search needs
 
 returns : tie.Need-returns
-returns c = search needs
+returns c = rw (c .enum-told .given .1)
 
 returns-2 : tie.Need-returns-2
-returns-2 c = rw (c .before .before .r .given .1, c .rect-words .ensures)
+returns-2 c =
+    rw (
+      c .before .before .before .before .before .r .given .1,
+      ← c .before .before .before .bits-of-f32 .ensures,
+      ← c .before .before .bits-of-f322 .ensures,
+      ← c .before .bits-of-f323 .ensures,
+      ← c .bits-of-f324 .ensures,
+    )
 
 pub maybe-rect-words-spec : {M : Type 1} → statement M
 maybe-rect-words-spec =
@@ -35,10 +39,9 @@ maybe-rect-words-spec =
     (tie.spec
     enum-told
     enum-known-r
-    rect-words-requires
-    array-read-t8
-    array-read-t11
-    array-read-t14
-    array-read-t17
+    bits-of-f32-requires
+    bits-of-f32-requires-2
+    bits-of-f32-requires-3
+    bits-of-f32-requires-4
     returns
     returns-2)

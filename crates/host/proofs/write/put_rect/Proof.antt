@@ -2,8 +2,17 @@ use borrow.Author.Needs.{needs}
 use Rattle.host.proofs.write.put_rect.Statement.{statement}
 use Rattle.host.proofs.write.put_rect.Tie as tie
 
-rect-words-requires : tie.Need-rect-words-requires
-rect-words-requires c κs = search needs
+bits-of-f32-requires : tie.Need-bits-of-f32-requires
+bits-of-f32-requires c κs = search needs
+
+bits-of-f32-requires-2 : tie.Need-bits-of-f32-requires-2
+bits-of-f32-requires-2 c κs = search needs
+
+bits-of-f32-requires-3 : tie.Need-bits-of-f32-requires-3
+bits-of-f32-requires-3 c κs = search needs
+
+bits-of-f32-requires-4 : tie.Need-bits-of-f32-requires-4
+bits-of-f32-requires-4 c κs = search needs
 
 slice-aggregate-put : tie.Need-slice-aggregate-put
 slice-aggregate-put c = search needs
@@ -15,8 +24,24 @@ same-length : tie.Need-same-length
 same-length c = search needs
 
 returns : tie.Need-returns
-returns c = rw (c .before .before .put .ensures, c .before .before .before .before .rect-words .ensures)
+returns c =
+    rw (
+      ← c .before .before .before .before .before .before .before .bits-of-f32 .ensures,
+      ← c .before .before .before .before .before .before .bits-of-f322 .ensures,
+      ← c .before .before .before .before .before .bits-of-f323 .ensures,
+      ← c .before .before .before .before .bits-of-f324 .ensures,
+      ← c .before .before .put .ensures,
+    )
 
 pub put-rect-spec : {M : Type 1} → statement M
 put-rect-spec =
-    tie.close (tie.spec rect-words-requires slice-aggregate-put put-requires same-length returns)
+    tie.close
+    (tie.spec
+    bits-of-f32-requires
+    bits-of-f32-requires-2
+    bits-of-f32-requires-3
+    bits-of-f32-requires-4
+    slice-aggregate-put
+    put-requires
+    same-length
+    returns)

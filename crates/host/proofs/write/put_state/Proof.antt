@@ -57,21 +57,21 @@ put-flags-requires-5 c κs = search needs
 
 returns : tie.Need-returns
 returns c =
-    let at-put-maybe-rect = c .before .before in
+    let at-put-maybe-rect = c .before .before .before in
     let at-put-flags4 = at-put-maybe-rect .before .before in
-    let at-put-press2 = at-put-flags4 .before .before in
+    let at-put-press2 = at-put-flags4 .before .before .before in
     let at-put-press = at-put-press2 .before .before .before in
-    let at-put-numbers3 = at-put-press .before .before .before in
-    let at-put-flags3 = at-put-numbers3 .before .before in
-    let at-put-flags2 = at-put-flags3 .before .before in
-    let at-put-flags = at-put-flags2 .before .before in
-    let at-put-target2 = at-put-flags .before .before in
+    let at-put-numbers3 = at-put-press .before .before .before .before in
+    let at-put-flags3 = at-put-numbers3 .before .before .before in
+    let at-put-flags2 = at-put-flags3 .before .before .before in
+    let at-put-flags = at-put-flags2 .before .before .before in
+    let at-put-target2 = at-put-flags .before .before .before in
     let at-put-target = at-put-target2 .before .before .before in
-    let at-put-numbers2 = at-put-target .before .before .before in
-    let at-put-numbers = at-put-numbers2 .before .before in
-    let at-bytes = at-put-numbers .before in
-    let at-start = at-bytes .before .before .before .before .before .before .before .before .before .before .before in
-    state-put (at-start .args .s) {b = at-start .args .bytes .now} (at-bytes .put-numbers-arg .given .0 .1)
+    let at-put-numbers2 = at-put-target .before .before .before .before in
+    let at-put-numbers = at-put-numbers2 .before .before .before in
+    let at-arg = at-put-numbers .before in
+    let at-start = at-arg .before .before in
+    state-put (at-start .args .s) {b = at-start .args .bytes .now} (at-arg .put-numbers-arg .given .0 .1)
     (next (at-put-numbers .put-numbers .ensures)
     (next (at-put-numbers2 .put-numbers2 .ensures)
     (next (at-put-target .put-target .ensures)

@@ -15,7 +15,7 @@ same-length : tie.Need-same-length
 same-length c = search needs
 
 returns : tie.Need-returns
-returns c = rw (c .before .before .put .ensures, c .before .before .before .before .target-words .ensures)
+returns c = rw (← c .before .before .before .before .target-words .ensures, ← c .before .before .put .ensures)
 
 pub put-target-spec : {M : Type 1} → statement M
 put-target-spec =
