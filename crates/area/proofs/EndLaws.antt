@@ -215,7 +215,7 @@ leads-y f s n st k h = unmoved-at-end f s 1 0 _ _ _ (beginOf f s) _ _ n st k h
 abbrev pub StaysOnEnd : (State → List ℕ → ℕ → Bool) → ℕ → Type 0
 StaysOnEnd moved d =
     (S : State) (bytes : List ℕ) → isAccepted (stepAt S bytes) ≡ true → wordNo bytes (At.stickToEnd + d) ≡ 1 → moved S bytes d ≡ false
-    → flag (S .«scroll_stuck_to_end») d ≡ true → IsOnEnd S bytes (stepAt S bytes) d × (flag (stepAt S bytes .state .«scroll_stuck_to_end») d ≡ true)
+    → flag (S .«scroll_stuck_to_end») d ≡ true → IsOnEnd S bytes (stepAt S bytes .state) d × (flag (stepAt S bytes .state .«scroll_stuck_to_end») d ≡ true)
 
 pub stays-x : StaysOnEnd isMoved 0
 unfolding isMoved maximumOffset clampedOffset nextState endedAt begunAt frameOf settingsOf flagsNo flagNo

@@ -7,7 +7,7 @@ use Rattle.area.specs.Pair.{flag}
 use Rattle.area.specs.State.{default}
 use Rattle.area.specs.Steps.{stepAt, answersFrom, stateFrom, isAccepted, acceptedFrom}
 use Rattle.area.specs.Moved.{isMoved, isMovedByWords}
-use Rattle.area.specs.Lists.{Call, byValue, lent, bytesOf, Run, ends, returned, left, RangeAlong, EndAlong, Whole, AllLists}
+use Rattle.area.specs.Lists.{Call, byValue, lent, bytesOf, Run, ends, returned, left, afterOf, RangeAlong, EndAlong, DistancesAlong, Whole, AllLists}
 use Rattle.area.specs.declared.state.State.{State}
 use Rattle.area.specs.declared.outcome.Answer.{Answer}
 use Rattle.area.proofs.TestLaws.{chosen}
@@ -52,14 +52,14 @@ alone S (bytes ∷ rest) =
     (λ h. subst (λ (u : State). stateFrom u others ≡ stateFrom after rest) (refusal-keeps S bytes h) (alone after rest))
 
 -- ---- "with rubber band off the stored offset lies in the range"
-range-along : (S : State) (frames : List (List ℕ)) → RangeAlong S frames (answersFrom S frames)
+range-along : (S : State) (frames : List (List ℕ)) → RangeAlong S frames (map afterOf (answersFrom S frames))
 range-along S [] = tt
 range-along S (bytes ∷ rest) = (in-range S bytes, range-along (stepAt S bytes .state) rest)
 
 -- ---- "a sticking axis that nobody moves shows the list's end": from a stuck axis on, it stays stuck
 end-along : (moved : State → List ℕ → ℕ → Bool) (d : ℕ) → StaysOnEnd moved d → (S : State) (frames : List (List ℕ))
     → flag (S .«scroll_stuck_to_end») d ≡ true
-    → EndAlong moved d S frames (answersFrom S frames)
+    → EndAlong moved d S frames (map afterOf (answersFrom S frames))
 end-along moved d stays S [] stuck = tt
 end-along moved d stays S (bytes ∷ rest) stuck = (
   λ a sticks unmoved.
@@ -74,13 +74,17 @@ fresh-stuck : (flag (default .«scroll_stuck_to_end») 0 ≡ true) × (flag (def
 unfolding default
 fresh-stuck = (refl, refl)
 
--- both axes, of the answers that the steps give
-both-along : (moved : State → List ℕ → ℕ → Bool) → StaysOnEnd moved 0 → StaysOnEnd moved 1 → (frames : List (List ℕ)) (answers : List Answer)
-    → answers ≡ answersFrom default frames
-    → EndAlong moved 0 default frames answers × EndAlong moved 1 default frames answers
-both-along moved x y frames answers e =
-    subst (λ (given : List Answer). EndAlong moved 0 default frames given × EndAlong moved 1 default frames given) (sym e)
-    (end-along moved 0 x default frames (fresh-stuck .0), end-along moved 1 y default frames (fresh-stuck .1))
+both-along : (moved : State → List ℕ → ℕ → Bool) → StaysOnEnd moved 0 → StaysOnEnd moved 1 → (frames : List (List ℕ))
+    → EndAlong moved 0 default frames (map afterOf (answersFrom default frames))
+    × EndAlong moved 1 default frames (map afterOf (answersFrom default frames))
+both-along moved x y frames = (end-along moved 0 x default frames (fresh-stuck .0), end-along moved 1 y default frames (fresh-stuck .1))
+
+distances : (frames : List (List ℕ)) → DistancesAlong default frames (map afterOf (answersFrom default frames))
+distances frames = record {
+  in-range = range-along default frames;
+  on-end = both-along isMoved stays-x stays-y frames;
+  on-end-by-words = both-along (λ S. isMovedByWords) stays-by-words-x stays-by-words-y frames;
+}
 
 whole-from-fresh : (calls : List Call) (answers : List Answer) (t : State) → Run default calls answers t → Whole default calls answers t
 whole-from-fresh calls answers t run =
@@ -90,9 +94,7 @@ whole-from-fresh calls answers t run =
       same-answers = is .answers-same;
       same-state = is .state-same;
       accepted-alone = alone default frames ∙ sym (is .state-same);
-      in-range = subst (RangeAlong default frames) (sym (is .answers-same)) (range-along default frames);
-      on-end = both-along isMoved stays-x stays-y frames answers (is .answers-same);
-      on-end-by-words = both-along (λ S. isMovedByWords) stays-by-words-x stays-by-words-y frames answers (is .answers-same);
+      distances = subst (λ (given : List Answer). DistancesAlong default frames (map afterOf given)) (sym (is .answers-same)) (distances frames);
     }
 
 pub all-lists : AllLists default

@@ -154,7 +154,7 @@ unfolding endOf beginOf preparedOf
 within-y f s off n = ended-within f 1 0 _ _ _ _ _ off (begun-unbanded f s 1 _ _ _ off) (n .maximum) (n .offset)
 
 pub in-range : (S : State) (bytes : List ℕ) → isAccepted (stepAt S bytes) ≡ true → wordNo bytes At.kineticRubberBand ≡ 0
-    → IsInRange S bytes (stepAt S bytes) 0 × IsInRange S bytes (stepAt S bytes) 1
+    → IsInRange S bytes (stepAt S bytes .state) 0 × IsInRange S bytes (stepAt S bytes .state) 1
 unfolding maximumOffset nextState endedAt begunAt
 in-range S bytes a h =
     let t = accepted S bytes a in

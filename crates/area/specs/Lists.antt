@@ -56,32 +56,48 @@ maximumOffset S bytes d = extentOn (endedAt S bytes) d .«max_offset»
 abbrev pub listEnd : State → List ℕ → ℕ → Float
 listEnd S bytes d = maxOf (maximumOffset S bytes d) zero
 
--- "The distance to a range is zero exactly where it contains the offset": the stored offset lies in 0 to the list's end
-abbrev pub IsInRange : State → List ℕ → Answer → ℕ → Type 0
-IsInRange S bytes r d = (le zero (num (r .state .offset) d) ≡ true) × (le (num (r .state .offset) d) (listEnd S bytes d) ≡ true)
+-- "The distance to a range is zero exactly where it contains the offset": the offset stored after the frame lies in 0 to the list's end
+abbrev pub IsInRange : State → List ℕ → State → ℕ → Type 0
+IsInRange S bytes after d = (le zero (num (after .offset) d) ≡ true) × (le (num (after .offset) d) (listEnd S bytes d) ≡ true)
 
--- "to the end where the two compare equal": the shown offset is the list's end
-abbrev pub IsOnEnd : State → List ℕ → Answer → ℕ → Type 0
-IsOnEnd S bytes r d = eq (num (clampedOffset (r .state)) d) (listEnd S bytes d) ≡ true
+-- "to the end where the two compare equal": the offset shown after the frame is the list's end
+abbrev pub IsOnEnd : State → List ℕ → State → ℕ → Type 0
+IsOnEnd S bytes after d = eq (num (clampedOffset after) d) (listEnd S bytes d) ≡ true
 
--- ---- along the answers
+-- ---- along the calls: of each, whether it was accepted, and the state after it
+pub record After : Type 0 where
+  pub accepted : Bool
+  pub state : State
+
+abbrev pub afterOf : Answer → After
+afterOf r = record { accepted = isAccepted r; state = r .state }
 
 -- after each accepted frame with word 39 equal to 0 the stored offset is in its range, on both axes
-abbrev pub RangeAlong : State → List (List ℕ) → List Answer → Type 0
-RangeAlong S (bytes ∷ rest) (r ∷ answers) =
-    (isAccepted r ≡ true → wordNo bytes At.kineticRubberBand ≡ 0 → IsInRange S bytes r 0 × IsInRange S bytes r 1) × RangeAlong (r .state) rest answers
+abbrev pub RangeAlong : State → List (List ℕ) → List After → Type 0
+RangeAlong S (bytes ∷ rest) (r ∷ afters) =
+    (r .accepted ≡ true → wordNo bytes At.kineticRubberBand ≡ 0 → IsInRange S bytes (r .state) 0 × IsInRange S bytes (r .state) 1)
+    × RangeAlong (r .state) rest afters
 RangeAlong S [] [] = Unit {0}
-RangeAlong S [] (r ∷ answers) = ⊥
+RangeAlong S [] (r ∷ afters) = ⊥
 RangeAlong S (bytes ∷ rest) [] = ⊥
 
 -- as long as every accepted frame sticks to the end on axis d and does not move it, the list shows its end after each of them
-abbrev pub EndAlong : (State → List ℕ → ℕ → Bool) → ℕ → State → List (List ℕ) → List Answer → Type 0
-EndAlong moved d S (bytes ∷ rest) (r ∷ answers) =
-    (isAccepted r ≡ true → wordNo bytes (At.stickToEnd + d) ≡ 1 → moved S bytes d ≡ false → IsOnEnd S bytes r d × EndAlong moved d (r .state) rest answers)
-    × (isAccepted r ≡ false → EndAlong moved d (r .state) rest answers)
+abbrev pub EndAlong : (State → List ℕ → ℕ → Bool) → ℕ → State → List (List ℕ) → List After → Type 0
+EndAlong moved d S (bytes ∷ rest) (r ∷ afters) =
+    (r .accepted ≡ true → wordNo bytes (At.stickToEnd + d) ≡ 1 → moved S bytes d ≡ false
+    → IsOnEnd S bytes (r .state) d × EndAlong moved d (r .state) rest afters)
+    × (r .accepted ≡ false → EndAlong moved d (r .state) rest afters)
 EndAlong moved d S [] [] = Unit {0}
-EndAlong moved d S [] (r ∷ answers) = ⊥
+EndAlong moved d S [] (r ∷ afters) = ⊥
 EndAlong moved d S (bytes ∷ rest) [] = ⊥
+
+-- the distances that are zero
+pub record DistancesAlong (S : State) (frames : List (List ℕ)) (afters : List After) : Type 0 where
+  -- "with rubber band off the stored offset lies in the range"
+  pub in-range : RangeAlong S frames afters
+  -- "a sticking axis that nobody moves shows the list's end": in the narrowest reading of a move, and in the one by words
+  pub on-end : EndAlong isMoved 0 S frames afters × EndAlong isMoved 1 S frames afters
+  pub on-end-by-words : EndAlong (λ T. isMovedByWords) 0 S frames afters × EndAlong (λ T. isMovedByWords) 1 S frames afters
 
 -- ---- the claim
 
@@ -92,11 +108,8 @@ pub record Whole (s : State) (calls : List Call) (answers : List Answer) (t : St
   pub same-state : t ≡ stateFrom s (map bytesOf calls)
   -- "the accepted frames alone reach the same state"
   pub accepted-alone : stateFrom s (acceptedFrom s (map bytesOf calls)) ≡ t
-  -- "with rubber band off the stored offset lies in the range"
-  pub in-range : RangeAlong s (map bytesOf calls) answers
-  -- "a sticking axis that nobody moves shows the list's end": in the narrowest reading of a move, and in the one by words
-  pub on-end : EndAlong isMoved 0 s (map bytesOf calls) answers × EndAlong isMoved 1 s (map bytesOf calls) answers
-  pub on-end-by-words : EndAlong (λ S. isMovedByWords) 0 s (map bytesOf calls) answers × EndAlong (λ S. isMovedByWords) 1 s (map bytesOf calls) answers
+  -- the range and the end
+  pub distances : DistancesAlong s (map bytesOf calls) (map afterOf answers)
 
 -- of every list of calls that begins at s; and each list has such a run
 pub record AllLists (s : State) : Type 0 where

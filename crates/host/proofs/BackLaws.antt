@@ -13,7 +13,6 @@ use Rattle.words.specs.Words.{bytesOf}
 use Rattle.area.specs.Frame.{wordNo, numberNo, flagNo, timeNo, pairNo, flagsNo, pos2No, rectNo, maybeRectNo}
 use Rattle.area.specs.Pair.{flag}
 use Rattle.area.specs.State.{noTarget, noPress}
-use Rattle.area.specs.Call.{callOf}
 use Rattle.area.specs.declared.state.State.{State}
 use Rattle.area.specs.declared.state.MaybeTarget.{MaybeTarget}
 use Rattle.area.specs.declared.state.OffsetTarget.{OffsetTarget}
@@ -23,7 +22,6 @@ use Rattle.area.specs.declared.state.MaybeRect.{MaybeRect}
 use Rattle.host.specs.Record.{numberWord, flagWord, numberWords, flagWords, targetWords, pressWords, maybeRectWords, stateWords}
 use Rattle.host.specs.Record.{maybeTargetNo, offsetTargetNo, maybePressNo, startOffsetNo, stateOf, isNoFlag, isDamaged}
 use Rattle.host.specs.Record.{Is32, Is64, ArePair, AreFlags, IsTarget, AreTargets, IsPress, ArePresses, IsRect, IsHeld}
-use Rattle.host.specs.Calls.{frameOn, leftBy}
 use Rattle.host.proofs.RecordLaws.{stateParts, state-right}
 use Rattle.host.proofs.ReadLaws.{start, partAt, Reads, reads}
 
@@ -206,9 +204,3 @@ written-is-undamaged s =
       fine-first b 36 (s .«bounced_this_momentum») (part s 12),
       fine-second b 36 (s .«bounced_this_momentum») (part s 12),
     )
-
--- so on a record that holds a state the library's frame is the frame call on that state
-pub frame-is-call : (s : State) → IsHeld s → (frame out : List ℕ)
-    → frameOn (bytesOf (stateWords s)) frame out ≡ leftBy (callOf s frame) (bytesOf (stateWords s)) out
-unfolding frameOn
-frame-is-call s held frame out = rw (written-is-undamaged s, written-is-read s held)

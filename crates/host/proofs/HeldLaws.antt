@@ -1,18 +1,15 @@
--- Whatever the bytes, the state that they stand for is one that the code can hold; so reading, writing and reading is reading.
-use mathlib.Core.Path.{_≡_}
+-- Whatever the bytes, the state that they stand for is one that the code can hold.
 use mathlib.Core.Bool.{Bool, true, false, cond}
 use mathlib.Core.List.{List}
 use Prim.Native.Nat.{ℕ, _+_}
 use lib.Ieee.{binary32, binary64}
 use lib.Ieee.Bits.{ofBits-fits}
-use Rattle.words.specs.Words.{bytesOf}
 use Rattle.area.specs.Frame.{wordNo, numberNo, flagNo, timeNo, pairNo, flagsNo, pos2No, rectNo, maybeRectNo}
 use Rattle.area.specs.declared.state.MaybeTarget.{MaybeTarget}
 use Rattle.area.specs.declared.state.MaybePress.{MaybePress}
 use Rattle.area.specs.declared.state.MaybeRect.{MaybeRect}
-use Rattle.host.specs.Record.{stateWords, maybeTargetNo, offsetTargetNo, maybePressNo, startOffsetNo, stateOf}
+use Rattle.host.specs.Record.{maybeTargetNo, offsetTargetNo, maybePressNo, startOffsetNo, stateOf}
 use Rattle.host.specs.Record.{Is32, Is64, ArePair, AreFlags, IsTarget, AreTargets, IsPress, ArePresses, IsRect, IsHeld}
-use Rattle.host.proofs.BackLaws.{written-is-read}
 
 number : (s : List ℕ) (n : ℕ) → Is32 (numberNo s n)
 unfolding numberNo
@@ -69,6 +66,3 @@ read-is-held s = record {
   «interact_rect» = rect s 31;
   «bounced_this_momentum» = flags s 36;
 }
-
-pub read-again : (s : List ℕ) → stateOf (bytesOf (stateWords (stateOf s))) ≡ stateOf s
-read-again s = written-is-read (stateOf s) (read-is-held s)

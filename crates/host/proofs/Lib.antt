@@ -4,3 +4,7 @@ pub mod RecordLaws
 pub mod ReadLaws
 pub mod BackLaws
 pub mod HeldLaws
+pub mod TypedLaws
+pub mod CalledLaws
+pub mod ListLaws
+pub mod Contracts

@@ -1,6 +1,7 @@
 // The calls on a state.
 ghost use mathlib.Core.Path.{_≡_};
 ghost use Rattle.host.specs.Calls as Spec;
+ghost use Rattle.host.specs.Lists.{AllRecordLists};
 use crate::read::is_damaged;
 use crate::read::state_of;
 use crate::write::put_numbers;
@@ -8,9 +9,11 @@ use crate::write::put_outcome;
 use crate::write::put_state;
 use area::State;
 
+// A fresh state's record. Demand 3 holds of every list of `strakobud_frame` calls that begins on it.
 #[no_mangle]
 pub extern "C" fn strakobud_fresh(state: &mut [u8; 148])
-    ensures { λ _. ⌜ now (state .exit) ≡ Spec.freshBytes ⌝ }
+    ensures starts { λ _. ⌜ now (state .exit) ≡ Spec.freshBytes ⌝ }
+    ensures lists { λ _. ⌜ AllRecordLists (now (state .exit)) ⌝ }
 {
     put_state(state, State::default());
 }
