@@ -6,19 +6,32 @@
  * when written where the flag is 0.
  *
  * No call allocates, keeps a pointer, or touches anything but what it is handed. The buffers of one call must not
- * overlap, must have at least the lengths named, and nobody else may write them meanwhile. Alignment does not matter.
- * Calls on different buffers may run in different threads.
+ * overlap, must have at least the lengths named (a frame: len bytes), and nobody else may write them meanwhile.
+ * Alignment does not matter. Calls on different buffers may run in different threads. The floating-point environment
+ * must be the usual one: rounding to nearest even, no flush to zero, exceptions masked. No call changes it, and the
+ * stack that the calls take is measured (README), not proved.
  *
  * Every answer is 0, or the number of a refusal:
  *   1  the frame is not 416 bytes long
  *   2  a flag is not 0 or 1, or a kind is outside its values
- *   3  a number is not finite or exceeds 1,048,576 in magnitude
+ *   3  a number is not finite or exceeds 1,048,576 in magnitude (max_size and points per second may be +infinity; the
+ *      time is from 0 to 2^32)
  *   4  an end lies below its start, a size is negative, or a factor is outside 0 to 1
- *   5  decay_time, stop_distance or points per second is outside its values
+ *   5  decay_time is outside 1/1,024 to 1,024, stop_distance is negative, or points per second is not above 0
  *   6  the state holds a number that is not finite, or a flag that is not 0 or 1
  *   7  a press beside a handle for which the bar has no room
  *   8  a number among the outputs is not finite
- * The lowest that applies is answered; 7 goes before 8.
+ * The lowest that applies is answered; 7 goes before 8. A word inside an option whose flag is 0 is not looked at.
+ *
+ * What a host has to do:
+ * - Draw by the shown offset: strakobud_offset, after the frame. The viewport in out is where the list stood before it
+ *   was put on its end: one frame late where rows arrive, and at an explicit offset that sticking overrides. Nothing is
+ *   claimed of it but that it equals egui's.
+ * - Set stick_to_end (words 24, 25) in every frame of a list that is to stay on its end: one accepted frame without it
+ *   can release the list, for later frames too.
+ * - After a refusal the list stands where the last accepted frame left it: a row that came with a bad sample is not
+ *   shown. Run the same frame again without its input, that is with 0 in words 15, 17, 54, 57 to 62, 64, 65, 74, 79, 86,
+ *   87, 91 and 98. If only input was bad it is accepted, moves nothing, and a list that stuck stands on its end.
  */
 #ifndef STRAKOBUD_H
 #define STRAKOBUD_H
@@ -62,8 +75,8 @@ void strakobud_fresh(uint8_t state[STRAKOBUD_STATE_BYTES]);
 uint32_t strakobud_frame(uint8_t state[STRAKOBUD_STATE_BYTES], const uint8_t *frame, size_t len,
                          uint8_t out[STRAKOBUD_OUT_BYTES]);
 
-/* The shown offset x, y: the stored one held to its range. 0, or 6 for a state with a flag that is not 0 or 1, with out
- * as it was. */
+/* The shown offset x, y, by which the list is drawn: the stored one held to its range. 0, or 6 for a state with a flag
+ * that is not 0 or 1, with out as it was. */
 uint32_t strakobud_offset(const uint8_t state[STRAKOBUD_STATE_BYTES], uint8_t out[8]);
 
 /* One axis by itself. A call begins with bounds min, bounds max, extent, decay_time, stop_distance, rubber_band. On a

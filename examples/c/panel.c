@@ -1,5 +1,5 @@
-/* A list of events on a panel: rows arrive, the list stays on its last entry, and a touch sample that is not a number
- * changes nothing. */
+/* A list of events on a panel: rows arrive and the list stays on its last entry. A row that arrives with a touch sample that
+ * is not a number is refused with it, and shown once the frame is run again without its input. */
 #include <inttypes.h>
 #include <math.h>
 #include <stdio.h>
@@ -55,6 +55,14 @@ static void list_frame(uint8_t *frame, float content_height)
     put_number(frame, 88, 1); /* points per second of the scroll delta */
 }
 
+/* The frame without what a hand or a program asks of the list. */
+static void clear_input(uint8_t *frame)
+{
+    static const int input[] = {15, 17, 54, 57, 58, 59, 60, 61, 62, 64, 65, 74, 79, 86, 87, 91, 98};
+    for (size_t i = 0; i < sizeof input / sizeof input[0]; i++)
+        put_word(frame, input[i], 0);
+}
+
 static void show(const char *what, uint32_t refusal, const uint8_t *state)
 {
     uint8_t offset[8];
@@ -72,9 +80,12 @@ int main(void)
     list_frame(frame, 420);
     show("21 rows", strakobud_frame(state, frame, sizeof frame, out), state);
 
+    list_frame(frame, 440);
     put_word(frame, 61, 1); /* dragged, by */
     put_number(frame, 58, NAN); /* a pointer delta that is not a number */
-    show("a bad sample", strakobud_frame(state, frame, sizeof frame, out), state);
+    show("22 rows, a bad sample", strakobud_frame(state, frame, sizeof frame, out), state);
+    clear_input(frame);
+    show("the same without input", strakobud_frame(state, frame, sizeof frame, out), state);
     show("a short frame", strakobud_frame(state, frame, 100, out), state);
     return 0;
 }

@@ -1,5 +1,6 @@
-//! A list of events on a panel: rows arrive, the list stays on its last entry, and a touch sample that is not a number changes
-//! nothing. Words are numbered from 1, as in include/strakobud.h.
+//! A list of events on a panel: rows arrive and the list stays on its last entry. A row that arrives with a touch sample that is
+//! not a number is refused with it, and shown once the frame is run again without its input. Words are numbered from 1, as in
+//! include/strakobud.h.
 
 struct Frame([u8; 416]);
 
@@ -39,6 +40,13 @@ impl Frame {
         }
         frame
     }
+
+    /// Without what a hand or a program asks of the list.
+    fn clear_input(&mut self) {
+        for number in [15, 17, 54, 57, 58, 59, 60, 61, 62, 64, 65, 74, 79, 86, 87, 91, 98] {
+            self.word(number, 0);
+        }
+    }
 }
 
 fn shown_offset(state: &strakobud::StateBytes) -> f32 {
@@ -56,10 +64,12 @@ fn main() {
         println!("{what}: refusal {refusal}, shown offset {offset:.1}");
     };
     run("20 rows", &Frame::of_list(400.0).0);
-    let mut frame = Frame::of_list(420.0);
-    run("21 rows", &frame.0);
+    run("21 rows", &Frame::of_list(420.0).0);
+    let mut frame = Frame::of_list(440.0);
     frame.word(61, 1); // dragged, by
     frame.number(58, f32::NAN); // a pointer delta that is not a number
-    run("a bad sample", &frame.0);
+    run("22 rows, a bad sample", &frame.0);
+    frame.clear_input();
+    run("the same without input", &frame.0);
     run("a short frame", &frame.0[..100]);
 }
