@@ -31,7 +31,7 @@ use Rattle.area.specs.Handle.{showFactorOf}
 use Rattle.area.specs.Bar.{noResponse}
 use Rattle.area.specs.End.{endedBy, finishedOf, axisEndedOf, endOf}
 use Rattle.area.specs.Steps.{begunAt, endedAt}
-use Rattle.area.specs.Moved.{wordOn, isOtherThanZero, isMovedByWords, isSomePos2, isDragHeeded, isPressHeeded, isMovedIn, isMoved}
+use Rattle.area.specs.Moved.{wordOn, isOtherThanZero, isMovedByWords, isSomePos2, isDragHeeded, isPressHeeded, isMovedIn, isMoved, MovesAreNamed}
 use Rattle.area.specs.declared.prepared.AxisBefore.{AxisBefore}
 use Rattle.area.specs.declared.frame.Frame.{Frame}
 use Rattle.area.specs.declared.frame.MaybePos2.{MaybePos2}
@@ -50,7 +50,7 @@ use Rattle.area.specs.declared.«wheel_turn».WheelHeard.{WheelHeard}
 use Rattle.area.specs.declared.«wheel_turn».Turned.{Turned}
 use Rattle.area.specs.declared.end.Extents.{Extents}
 use Rattle.area.proofs.TestLaws as Test
-use Rattle.area.proofs.TestLaws.{neither, not-left, not-right, fails-left, fails-right, either}
+use Rattle.area.proofs.TestLaws.{neither, not-left, not-right, fails-left, fails-right, turned-true, turned-false, either}
 use Rattle.area.proofs.ZeroLaws.{IsZero, add-zeros, mul-zero, neg-zero, equals-zero, of-no-other, no-other-than-zero}
 use Rattle.area.proofs.CallLaws.{accepted}
 use Rattle.area.proofs.EndLaws.{StaysOnEnd, stays-x, stays-y}
@@ -276,18 +276,33 @@ quiet-y bytes u n = record {
 }
 
 -- ---- an accepted frame
-unmoved-x : (S : State) (bytes : List ℕ) → IsQuiet (frameOf bytes) 0 → isMoved S bytes 0 ≡ false
-unfolding isMoved endedAt endOf
-unmoved-x S bytes q = quiet-unmoved (frameOf bytes) 0 1 _ _ _ _ _ (begunAt S bytes) q
 
-unmoved-y : (S : State) (bytes : List ℕ) → IsQuiet (frameOf bytes) 1 → isMoved S bytes 1 ≡ false
+-- on axis d: a frame that the checks let through and that names no move does not move it
+abbrev Rests : ℕ → Type 0
+Rests d = (S : State) (bytes : List ℕ) → refusalOf bytes S ≡ 0 → isMovedByWords bytes d ≡ false → isMoved S bytes d ≡ false
+
+rests-x : Rests 0
 unfolding isMoved endedAt endOf
-unmoved-y S bytes q = quiet-unmoved (frameOf bytes) 1 0 _ _ _ _ _ (begunAt S bytes) q
+rests-x S bytes a h =
+    quiet-unmoved (frameOf bytes) 0 1 _ _ _ _ _ (begunAt S bytes) (quiet-x bytes (unnamed bytes 0 h) (multiplier-finite bytes S a .0))
+
+rests-y : Rests 1
+unfolding isMoved endedAt endOf
+rests-y S bytes a h =
+    quiet-unmoved (frameOf bytes) 1 0 _ _ _ _ _ (begunAt S bytes) (quiet-y bytes (unnamed bytes 1 h) (multiplier-finite bytes S a .1))
+
+named : (d : ℕ) → Rests d → MovesAreNamed d
+named d rests S bytes a = turned-true (isMoved S bytes d) (isMovedByWords bytes d) (rests S bytes (accepted S bytes a .unrefused))
+
+pub moves-are-named : MovesAreNamed 0 × MovesAreNamed 1
+moves-are-named = (named 0 rests-x, named 1 rests-y)
+
+-- so what holds of an axis that is not moved holds of one that no word moves
+by-words : (d : ℕ) → MovesAreNamed d → StaysOnEnd isMoved d → StaysOnEnd (λ S. isMovedByWords) d
+by-words d names stays S bytes a st h = stays S bytes a st (turned-false (isMoved S bytes d) (isMovedByWords bytes d) (names S bytes a) h)
 
 pub stays-by-words-x : StaysOnEnd (λ S. isMovedByWords) 0
-stays-by-words-x S bytes a st h k =
-    stays-x S bytes a st (unmoved-x S bytes (quiet-x bytes (unnamed bytes 0 h) (multiplier-finite bytes S (accepted S bytes a .unrefused) .0))) k
+stays-by-words-x = by-words 0 (moves-are-named .0) stays-x
 
 pub stays-by-words-y : StaysOnEnd (λ S. isMovedByWords) 1
-stays-by-words-y S bytes a st h k =
-    stays-y S bytes a st (unmoved-y S bytes (quiet-y bytes (unnamed bytes 1 h) (multiplier-finite bytes S (accepted S bytes a .unrefused) .1))) k
+stays-by-words-y = by-words 1 (moves-are-named .1) stays-y

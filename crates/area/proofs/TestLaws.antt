@@ -44,6 +44,15 @@ pub fails-right : (p q : Bool) → q ≡ false → (p && q) ≡ false
 fails-right true q h = h
 fails-right false q h = refl
 
+-- ---- one test that leads to another, turned round
+pub turned-true : (p q : Bool) → (q ≡ false → p ≡ false) → p ≡ true → q ≡ true
+turned-true p true leads h = refl
+turned-true p false leads h = absurd (true≢false (sym h ∙ leads refl))
+
+pub turned-false : (p q : Bool) → (p ≡ true → q ≡ true) → q ≡ false → p ≡ false
+turned-false true q leads h = absurd (true≢false (sym (leads refl) ∙ h))
+turned-false false q leads h = refl
+
 -- ---- a choice
 
 -- by whether a test holds

@@ -1,6 +1,7 @@
 -- When an axis "is moved by hand or program", read twice: by the frame's words alone, as document 01 names them, and in the
 -- narrowest way, where only a move that the steps heed counts. Axis d is 0 for x and 1 for y.
 use Prim.Native.Nat.{ℕ, _+_}
+use mathlib.Core.Path.{_≡_}
 use mathlib.Core.Bool.{Bool, true, false, cond, not, _&&_, _||_}
 use mathlib.Core.List.{List}
 use lib.Dec.{eqb}
@@ -12,7 +13,7 @@ use Rattle.area.specs.Layout as At
 use Rattle.area.specs.Frame.{flagNo, numberNo, frameOf}
 use Rattle.area.specs.Handle.{showFactorOf}
 use Rattle.area.specs.Bar.{noResponse}
-use Rattle.area.specs.Steps.{begunAt, endedAt}
+use Rattle.area.specs.Steps.{begunAt, endedAt, stepAt, isAccepted}
 use Rattle.area.specs.declared.state.State.{State}
 use Rattle.area.specs.declared.frame.Frame.{Frame}
 use Rattle.area.specs.declared.frame.MaybePos2.{MaybePos2}
@@ -72,3 +73,7 @@ isMovedIn f p d e = isDragHeeded f p d || (e .consumed || (e .«had_explicit_scr
 
 unfoldable pub isMoved : State → List ℕ → ℕ → Bool
 isMoved S bytes d = isMovedIn (frameOf bytes) (begunAt S bytes) d (endedOn (endedAt S bytes) d)
+
+-- ---- the narrowest reading lies in the one by words: no accepted frame moves axis d without a word that names the move
+abbrev pub MovesAreNamed : ℕ → Type 0
+MovesAreNamed d = (S : State) (bytes : List ℕ) → isAccepted (stepAt S bytes) ≡ true → isMoved S bytes d ≡ true → isMovedByWords bytes d ≡ true
