@@ -10,6 +10,7 @@ pub mod StuckLaws
 pub mod EndLaws
 pub mod ZeroLaws
 pub mod MovedLaws
+pub mod ListingLaws
 pub mod ListLaws
 pub mod ReplayLaws
 pub mod Values

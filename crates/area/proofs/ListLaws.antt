@@ -15,6 +15,7 @@ use Rattle.area.proofs.CallLaws.{step-is-call, refusal-keeps}
 use Rattle.area.proofs.RangeLaws.{in-range}
 use Rattle.area.proofs.EndLaws.{StaysOnEnd, stays-x, stays-y}
 use Rattle.area.proofs.MovedLaws.{stays-by-words-x, stays-by-words-y}
+use Rattle.area.proofs.ListingLaws.{listing-shown}
 
 -- ---- "answers and state equal document 01's steps"
 record Same (s : State) (calls : List Call) (answers : List Answer) (t : State) : Type 0 where
@@ -98,4 +99,4 @@ whole-from-fresh calls answers t run =
     }
 
 pub all-lists : AllLists default
-all-lists = record { whole = whole-from-fresh; has-run = run-of default }
+all-lists = record { whole = whole-from-fresh; has-run = run-of default; listing-shown = listing-shown }

@@ -26,5 +26,6 @@ pub mod PutOut
 pub mod Call
 pub mod Steps
 pub mod Moved
+pub mod Listing
 pub mod Lists
 pub mod Replay

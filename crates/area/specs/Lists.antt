@@ -13,6 +13,7 @@ use Rattle.area.specs.Frame.{wordNo}
 use Rattle.area.specs.Call.{callOf}
 use Rattle.area.specs.Steps.{endedAt, answersFrom, stateFrom, acceptedFrom, isAccepted}
 use Rattle.area.specs.Moved.{extentOn, isMoved, isMovedByWords}
+use Rattle.area.specs.Listing.{ListingShown}
 use Rattle.area.specs.declared.state.State.{State}
 use Rattle.area.specs.declared.outcome.Outcome.{Outcome}
 use Rattle.area.specs.declared.outcome.Answer.{Answer}
@@ -111,7 +112,8 @@ pub record Whole (s : State) (calls : List Call) (answers : List Answer) (t : St
   -- the range and the end
   pub distances : DistancesAlong s (map bytesOf calls) (map afterOf answers)
 
--- of every list of calls that begins at s; and each list has such a run
+-- of every list of calls that begins at s; each list has such a run, and the document's own frame meets what the laws ask
 pub record AllLists (s : State) : Type 0 where
   pub whole : (calls : List Call) (answers : List Answer) (t : State) → Run s calls answers t → Whole s calls answers t
   pub has-run : (calls : List Call) → Run s calls (answersFrom s (map bytesOf calls)) (stateFrom s (map bytesOf calls))
+  pub listing-shown : ListingShown s
