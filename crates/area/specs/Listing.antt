@@ -76,10 +76,14 @@ host = 0 ∷ 0 ∷ f200 ∷ f100 ∷ 0 ∷ 0 ∷ f200 ∷ f100 ∷ zeros 34
 abbrev content : List ℕ
 content = f180 ∷ f400 ∷ (zeros 4 ++ (f1 ∷ zeros 16))
 
+-- its 104 words
+abbrev pub listingWords : List ℕ
+listingWords = settings ++ (style ++ (host ++ content))
+
 -- its 416 bytes
 unfoldable pub listing : List ℕ
 unfolding bytesOf
-listing = bytesOf (settings ++ (style ++ (host ++ content)))
+listing = bytesOf listingWords
 
 -- ---- what it shows, from the state s: the premises of demand 3's laws are met, and the list shows its end, 300
 pub record ListingShown (s : State) : Type 0 where

@@ -4,7 +4,8 @@
 use mathlib.Core.Path.{_≡_, refl, sym, ap, subst, _∙_}
 use mathlib.Core.Bool.{Bool, true, false, cond}
 use mathlib.Core.List.{List, [], _∷_, map}
-use Prim.Native.Nat.{ℕ}
+use Prim.Native.Nat.{ℕ, _/_, _%_, _<_}
+use native.Mathlib.Omega.{arith}
 use borrow.Author.Tests.{eqb-true, eq-eqb}
 use lib.Dec.{eqb}
 use lib.Ieee.{binary32}
@@ -14,6 +15,7 @@ use Rattle.words.specs.Words.{bytesOf}
 use Rattle.area.specs.State.{default}
 use Rattle.area.specs.Checks.{refusalOf}
 use Rattle.area.specs.Steps.{stepAt, answersFrom, stateFrom, acceptedFrom, isAccepted}
+use Rattle.area.specs.Listing.{listingWords, listing, ListingShown}
 use Rattle.area.specs.Lists as area
 use Rattle.area.specs.declared.state.State.{State}
 use Rattle.area.specs.declared.outcome.Answer.{Answer}
@@ -221,8 +223,22 @@ fresh-is-record : IsRecord freshBytes
 unfolding freshBytes
 fresh-is-record = ap (λ (S : State). bytesOf (stateWords S)) (sym fresh-stands)
 
+-- what words are written as are bytes
+words-are : (words : List ℕ) → AreBytes (bytesOf words)
+unfolding bytesOf
+words-are [] = tt
+words-are (w ∷ words) = (low w, (low (w / 256), (low (w / 65536), (low (w / 16777216), words-are words))))
+  where
+    low : (n : ℕ) → n % 256 < 256
+    low n = omega arith
+
+listing-are : AreBytes listing
+unfolding listing
+listing-are = words-are listingWords
+
 pub all-lists : area.AllLists default → AllRecordLists freshBytes
 all-lists all = record {
   whole = whole-from freshBytes fresh-is-record (subst area.AllLists (sym fresh-stands) all);
   has-run = run-of freshBytes;
+  listing-shown = (listing-are, subst ListingShown (sym fresh-stands) (all .listing-shown));
 }

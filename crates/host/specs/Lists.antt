@@ -6,6 +6,7 @@ use mathlib.Core.List.{List, [], _∷_, map}
 use lib.Dec.{eqb}
 use Rattle.words.specs.Words.{bytesOf}
 use Rattle.area.specs.Steps.{answersFrom, stateFrom}
+use Rattle.area.specs.Listing.{listing, ListingShown}
 use Rattle.area.specs.Lists.{After, DistancesAlong}
 use Rattle.area.specs.declared.outcome.Answer.{Answer}
 use Rattle.host.specs.Record.{stateWords, stateOf}
@@ -76,7 +77,9 @@ pub record RecordWhole (s : List ℕ) (calls : List RecordCall) (answers : List 
   -- the range and the end, by area's own law, of the states that the records stand for
   pub distances : DistancesAlong (stateOf s) (framesOf calls) (map afterOn answers)
 
--- of every list of calls that begins on the record s; and each list of frames in bytes has such a run
+-- of every list of calls that begins on the record s; each list of frames in bytes has such a run, and the document's own frame is one in
+-- bytes and meets what the laws ask
 pub record AllRecordLists (s : List ℕ) : Type 0 where
   pub whole : (calls : List RecordCall) (answers : List FrameLeft) (t : List ℕ) → RecordRun s calls answers t → RecordWhole s calls answers t
   pub has-run : (calls : List RecordCall) → AreFrames calls → (answers : List FrameLeft) × (t : List ℕ) × RecordRun s calls answers t
+  pub listing-shown : AreBytes listing × ListingShown (stateOf s)
