@@ -1,20 +1,25 @@
 -- The corners of interpolation_factor. Assumes nothing.
-use mathlib.Core.Path.{_≡_, refl, ap}
-use mathlib.Core.Bool.{true, false, true≢false, false≢true}
-use Prim.Native.Nat.{ℕ, zero, suc, _+_, _-_, _*_, _≤_, _<_}
+use mathlib.Core.Path.{_≡_, refl, sym, ap, _∙_, subst}
+use mathlib.Core.Bool.{Bool, cond, true, false, true≢false, false≢true}
+use Prim.Native.Nat.{ℕ, zero, suc, _+_, _-_, _*_, _^_, _≤_, _<_}
 use native.Mathlib.Nat.{mul-pos, zero-lt-suc, le-refl}
 use native.Mathlib.Omega.{arith}
-use borrow.Author.Tests.{ltb-false, le-ltb}
-use lib.Dec.{eqb·suc-zero}
-use lib.Ieee.{Float, nan, inf, fin, binary32, binary64, up, down, round, sum, add, sub, neg, mul, div, lt, ofBits}
-use lib.Ieee.Fits.{up-pos, down-pos}
-use lib.Ieee.Scale.{round-same}
+use borrow.Author.Tests.{ltb-true, ltb-false, le-ltb, lt-ltb}
+use lib.Dec.{T, ltb, eqb·suc-zero}
+use lib.Pow.{pow-pos}
+use lib.IntN.{ℤ}
+use lib.Ieee.{Float, nan, inf, fin, binary32, binary64, up, down, odd, units, round, sum, add, sub, neg, mul, div, lt, le, fits, ofBits}
+use lib.Ieee.Fits.{up-pos, down-pos, round-is}
+use lib.Ieee.Exact.{odd-sign}
 use Rattle.numbers.specs.F32 as F32
-use Rattle.numbers.specs.Scalar.{isFinite}
+use Rattle.numbers.specs.Scalar.{signBit, isFinite}
 use Rattle.numbers.specs.Range.{clampOf}
 use Rattle.numbers.specs.Convert.{narrowOf}
 use Rattle.numbers.specs.Blend.{easeOf, interpolationFactorOf}
-use Rattle.numbers.specs.Corners.{lengthOf, elapsedOf, ZeroLengthGives1, NoSpanGives1}
+use Rattle.numbers.specs.Corners.{lengthOf, elapsedOf, ZeroLengthGives1, NoSpanGives1, BeforeStartGives0}
+use Rattle.numbers.proofs.NegativeLaws.{by-size}
+use Rattle.numbers.proofs.HeldLaws.{round-0}
+use Rattle.numbers.proofs.MonotoneLaws.{narrow-mono, sub-mono, sub-less, still-below}
 
 -- ---- a zero-length span
 
@@ -49,8 +54,8 @@ zero-length-gives-1 start end time dt h k = rw (h, from-start-on (elapsedOf star
 -- ---- a span that ends where it starts
 
 itself : (a c : ℕ) → 0 < c → round binary64 false (a - a) c ≡ F32.zero
-unfolding round ofBits
-itself a c p = round-same binary64 false (a - a) c 0 1 p (omega arith) (omega arith)
+unfolding ofBits
+itself a c p = round-0 binary64 false (a - a) c (omega arith) p
 
 difference-0 : (x : Float) → isFinite x ≡ true → sub binary64 x x ≡ F32.zero
 unfolding isFinite sub add neg sum
@@ -71,3 +76,92 @@ length-0 start h = ap narrowOf (difference-0 start h)
 
 pub no-span-gives-1 : NoSpanGives1
 no-span-gives-1 start time dt h = zero-length-gives-1 start start time dt (length-0 start h)
+
+-- ---- time before the start
+
+below-0 : (x : Float) → lt x F32.zero ≡ true → easeOf x ≡ F32.zero
+unfolding easeOf clampOf mul sub lt ofBits
+below-0 x h = rw h
+
+ease-infinite : easeOf (inf true) ≡ F32.zero
+unfolding easeOf clampOf mul sub lt ofBits
+ease-infinite = refl
+
+ease-odd : (q k : ℕ) → easeOf (odd 25 true q k 149) ≡ F32.zero
+unfolding odd easeOf clampOf mul sub lt ofBits
+ease-odd zero k = refl
+ease-odd (suc q) k =
+    below-0 (odd 25 true (suc q) k 149)
+    (by-size (odd 25 true (suc q) k 149) true (suc q * 2 ^ k) (odd-sign 25 true (suc q) k 149) ∙ lt-ltb 0 (suc q * 2 ^ k) (mul-pos (zero-lt-suc q) (pow-pos k)))
+
+ease-units : (q k : ℕ) → easeOf (units binary32 true q k) ≡ F32.zero
+unfolding units
+ease-units q k = go (ltb (q * 2 ^ k) (2 ^ (149 + 128)))
+  where
+    go : (b : Bool) → easeOf (cond b (odd 25 true q k 149) (inf true)) ≡ F32.zero
+    go true = ease-odd q k
+    go false = ease-infinite
+
+ease-round : (a c : ℕ) → easeOf (round binary32 true a c) ≡ F32.zero
+ease-round a c = ap easeOf (round-is binary32 true a c) ∙ ease-units _ _
+
+no-less : (a d : ℕ) → a * 1 < 0 * 1 * d → ⊥
+no-less a d h = omega arith
+
+no-zero : (u d : ℕ) → 0 < 0 * u * 1 + 0 * 1 * d → ⊥
+no-zero u d h = omega arith
+
+ease-over : (x : Float) (n : ℕ) (d : ℤ) → lt x F32.zero ≡ true → easeOf (div binary32 x (fin false n d)) ≡ F32.zero
+unfolding div lt ofBits
+ease-over nan n d h = absurd (false≢true h)
+ease-over (inf true) n d h = ease-infinite
+ease-over (inf false) n d h = absurd (false≢true h)
+ease-over (fin false m e) n d h = absurd (no-less (m * up e) (down e) (ltb-true (m * up e * 1) (0 * 1 * down e) h))
+ease-over (fin true zero e) n d h = absurd (no-zero (up e) (down e) (ltb-true 0 (0 * up e * 1 + 0 * 1 * down e) h))
+ease-over (fin true (suc m) e) zero d h = rw (eqb·suc-zero m) ease-infinite
+ease-over (fin true (suc m) e) (suc n) d h = rw (eqb·suc-zero n) (ease-round (suc m * up e * down d) (suc n * up d * down e))
+
+ease-before : (x length : Float) → isFinite length ≡ true → signBit length ≡ false → lt x F32.zero ≡ true → easeOf (div binary32 x length) ≡ F32.zero
+unfolding isFinite
+ease-before x nan p q h = absurd (false≢true p)
+ease-before x (inf s) p q h = absurd (false≢true p)
+ease-before x (fin true n d) p q h = absurd (true≢false q)
+ease-before x (fin false n d) p q h = ease-over x n d h
+
+start-finite : (start end : Float) → isFinite (lengthOf start end) ≡ true → isFinite start ≡ true
+unfolding isFinite narrowOf sub add neg
+start-finite (fin s m e) end h = refl
+start-finite nan nan h = h
+start-finite nan (inf t) h = h
+start-finite nan (fin t n d) h = h
+start-finite (inf s) nan h = h
+start-finite (inf true) (inf true) h = h
+start-finite (inf true) (inf false) h = h
+start-finite (inf false) (inf true) h = h
+start-finite (inf false) (inf false) h = h
+start-finite (inf s) (fin t n d) h = h
+
+not-at-end : (start time : Float) → isFinite start ≡ true → lt (elapsedOf start time) F32.zero ≡ true → lt time (inf false) ≡ true
+unfolding isFinite narrowOf sub add neg lt ofBits
+not-at-end nan time p h = absurd (false≢true p)
+not-at-end (inf s) time p h = absurd (false≢true p)
+not-at-end (fin s m e) nan p h = h
+not-at-end (fin s m e) (inf true) p h = refl
+not-at-end (fin s m e) (inf false) p h = h
+not-at-end (fin s m e) (fin t n d) p h = refl
+
+-- the time before is not above the time, and so is what has elapsed
+earlier : (start time dt : Float) → T (fits binary64 time) → le F32.zero dt ≡ true → isFinite start ≡ true → lt (elapsedOf start time) F32.zero ≡ true
+    → lt (elapsedOf start (sub binary64 time dt)) F32.zero ≡ true
+earlier start time dt t d f h =
+    still-below _ (elapsedOf start time)
+    (narrow-mono _ _ (sub-mono binary64 _ time start f (sub-less binary64 time dt t (not-at-end start time f h) (subst T (sym d) tt)))) h
+
+pub before-start-gives-0 : BeforeStartGives0
+unfolding interpolationFactorOf div sub lt ofBits
+before-start-gives-0 start end time dt t d p q h =
+    let f = start-finite start end p in
+    rw (
+      ease-before (elapsedOf start time) (lengthOf start end) p q h,
+      ease-before (elapsedOf start (sub binary64 time dt)) (lengthOf start end) p q (earlier start time dt t d f h),
+    )
