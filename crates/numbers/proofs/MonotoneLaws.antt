@@ -21,11 +21,11 @@ use Rattle.numbers.proofs.HeldLaws.{round-0, held-exact}
 
 -- ---- the order of two finite numbers, by what of each lies above zero and what beneath
 
-abbrev above : Bool → ℕ → ℕ
+abbrev pub above : Bool → ℕ → ℕ
 above true a = 0
 above false a = a
 
-abbrev beneath : Bool → ℕ → ℕ
+abbrev pub beneath : Bool → ℕ → ℕ
 beneath true a = a
 beneath false a = 0
 
@@ -74,7 +74,7 @@ beneath-mul false a b = omega arith
 
 -- ---- what is rounded has the sign given, and is no not-a-number
 
-abbrev IsSigned : Bool → Float → Type 0
+abbrev pub IsSigned : Bool → Float → Type 0
 IsSigned s nan = ⊥
 IsSigned s (inf t) = t ≡ s
 IsSigned s (fin t m e) = t ≡ s
@@ -93,7 +93,7 @@ unfolding units
 units-signed f s q k =
     or-infinite (ltb (q * 2 ^ k) (2 ^ (low f + suc (emax f)))) s (odd (suc (prec f)) s q k (low f)) (odd-signed (suc (prec f)) s q k (low f))
 
-round-signed : (f : Format) (s : Bool) (a c : ℕ) → IsSigned s (round f s a c)
+pub round-signed : (f : Format) (s : Bool) (a c : ℕ) → IsSigned s (round f s a c)
 round-signed f s a c = subst (IsSigned s) (sym (round-is f s a c)) (units-signed f s _ _)
 
 lowest : (s : Bool) (x : Float) → IsSigned s x → T (le (inf true) x)
@@ -124,7 +124,7 @@ apart (fin false m e) (fin t n d) p q = absurd (false≢true p)
 
 -- ---- the fraction (p - n) / c, rounded: a zero may have either sign
 
-abbrev IsRounded : Format → ℕ → ℕ → ℕ → Float → Type 0
+abbrev pub IsRounded : Format → ℕ → ℕ → ℕ → Float → Type 0
 IsRounded f p n c x = ((p ≤ n) × (x ≡ round f true (n - p) c)) ⊎ ((n ≤ p) × (x ≡ round f false (p - n) c))
 
 neg-le : (x y : Float) → T (le x y) → T (le (neg y) (neg x))
@@ -190,7 +190,7 @@ rounded-highest f p n c x (inr (k, i)) = rw i (highest false _ (round-signed f f
 
 -- ---- a sum and what is narrowed are such fractions
 
-sum-rounded : (f : Format) (s : Bool) (a : ℕ) (t : Bool) (b c : ℕ) → IsRounded f (above s a + above t b) (beneath s a + beneath t b) c (sum f s a t b c)
+pub sum-rounded : (f : Format) (s : Bool) (a : ℕ) (t : Bool) (b c : ℕ) → IsRounded f (above s a + above t b) (beneath s a + beneath t b) c (sum f s a t b c)
 unfolding sum
 sum-rounded f true a true b c = inl (zero-le, ap (λ (k : ℕ). round f true k c) (omega arith))
 sum-rounded f false a false b c = inr (zero-le, ap (λ (k : ℕ). round f false k c) (omega arith))
