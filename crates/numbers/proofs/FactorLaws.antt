@@ -154,11 +154,12 @@ earlier start time dt t d f h =
 
 pub before-start-gives-0 : BeforeStartGives0
 unfolding interpolationFactorOf div sub lt ofBits
-before-start-gives-0 start end time dt t d p q h =
-    let f = start-finite start end p in
+before-start-gives-0 start end time dt b =
+    let f = start-finite start end (b .finite) in
     rw (
-      ease-before (sinceOf start time) (sinceOf start end) p q h,
-      ease-before (sinceOf start (sub binary64 time dt)) (sinceOf start end) p q (earlier start time dt t d f h),
+      ease-before (sinceOf start time) (sinceOf start end) (b .finite) (b .forward) (b .before),
+      ease-before (sinceOf start (sub binary64 time dt)) (sinceOf start end) (b .finite) (b .forward)
+          (earlier start time dt (b .held) (b .onward) f (b .before)),
     )
 
 -- ---- a start before the end

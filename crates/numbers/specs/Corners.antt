@@ -2,12 +2,12 @@
 use mathlib.Core.Path.{_≡_, refl}
 use mathlib.Core.Bool.{true, false}
 use lib.Dec.{T}
-use lib.Ieee.{Float, binary64, ofBits, neg, sub, mul, div, lt, le, fits}
+use lib.Ieee.{Float, binary32, binary64, ofBits, neg, sub, mul, div, lt, le, eq, fits}
 use Rattle.numbers.specs.F32.{zero, one}
 use Rattle.numbers.specs.Scalar.{signBit, isFinite}
 use Rattle.numbers.specs.Range.{clampOf}
 use Rattle.numbers.specs.Convert.{narrowOf}
-use Rattle.numbers.specs.Blend.{easeOf, interpolationFactorOf}
+use Rattle.numbers.specs.Blend.{lerpOf, easeOf, interpolationFactorOf}
 
 -- "the differences .. read as narrowed": since the start up to the end, a span's length, and up to a time
 abbrev pub sinceOf : Float → Float → Float
@@ -23,11 +23,21 @@ abbrev pub NoSpanGives1 : Type 0
 NoSpanGives1 = (start time dt : Float) → isFinite start ≡ true → lt (sinceOf start time) zero ≡ false →
     interpolationFactorOf start start time dt ≡ one
 
--- "time before the start gives factor 0", of a time that is an f64 and a dt that is not below 0
+-- "time before the start", of a time that is an f64 and a dt that is not below 0; of "the differences" only the length has to be finite
+pub record IsBeforeStart (start end time dt : Float) : Type 0 where
+  pub held : T (fits binary64 time)
+  pub onward : le zero dt ≡ true
+  pub finite : isFinite (sinceOf start end) ≡ true
+  pub forward : signBit (sinceOf start end) ≡ false
+  pub before : lt (sinceOf start time) zero ≡ true
+
+-- it "gives factor 0"
 abbrev pub BeforeStartGives0 : Type 0
-BeforeStartGives0 = (start end time dt : Float) → T (fits binary64 time) → le zero dt ≡ true →
-    isFinite (sinceOf start end) ≡ true → signBit (sinceOf start end) ≡ false → lt (sinceOf start time) zero ≡ true →
-    interpolationFactorOf start end time dt ≡ zero
+BeforeStartGives0 = (start end time dt : Float) → IsBeforeStart start end time dt → interpolationFactorOf start end time dt ≡ zero
+
+-- by which an f32 moves nowhere towards a finite goal
+abbrev pub LerpBy0Stays : Type 0
+LerpBy0Stays = (a b : Float) → T (fits binary32 a) → isFinite a ≡ true → isFinite b ≡ true → eq (lerpOf a b zero) a ≡ true
 
 -- the sign bit is clear where the start is before the end
 abbrev pub StartBeforeEndIsForward : Type 0
