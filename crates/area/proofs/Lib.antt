@@ -5,6 +5,7 @@ pub mod InfinityLaws
 pub mod OrderLaws
 pub mod CallLaws
 pub mod FollowLaws
+pub mod TargetLaws
 pub mod RangeLaws
 pub mod StuckLaws
 pub mod EndLaws

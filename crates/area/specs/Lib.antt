@@ -1,5 +1,5 @@
 -- The state and its readers; the frame's words and what they stand for; the checks; then `begin` and `end`, stage by stage in the
--- order of the Rust; the frame call; lists of calls.
+-- order of the Rust; the frame call; lists of calls. Corners is what document 01 says of a target under way, proved.
 pub mod Pair
 pub mod State
 pub mod Layout
@@ -11,6 +11,7 @@ pub mod AxisPhysics
 pub mod Space
 pub mod Drive
 pub mod Follow
+pub mod Corners
 pub mod Begin
 pub mod Adjust
 pub mod Extent
