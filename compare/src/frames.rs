@@ -59,7 +59,7 @@ fn scenes(seed: u64, count: usize) -> Vec<Vec<u8>> {
     made.expect("the list is made")
 }
 
-/// Lists of scenes, each from a fresh state; after a difference both sides go on from the Rust's state.
+/// Lists of scenes, each from a fresh state; after a difference both sides go on from the oracle's state.
 pub fn from_fresh_states(tally: &mut Tally, seed: u64, count: u64) {
     let mut done = 0;
     while done < count {

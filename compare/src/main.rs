@@ -1,4 +1,4 @@
-//! Runs the library and the Rust under document 01's stand-ins on the same bytes, in one process, and compares every byte left.
+//! Runs the library and the oracle on the same bytes, in one process, and compares every byte left.
 //!
 //! `compare SEED FRAMES STATES CALLS`: frames of scenes from fresh states, frames on arbitrary states, axis calls.
 

@@ -61,7 +61,7 @@ impl Tally {
                 }
             }
         }
-        println!("branches, as the Rust met them");
+        println!("branches, as the oracle met them");
         for (branch, words) in BRANCHES {
             println!("  {:>12} {words}", count_of(*branch));
         }
