@@ -13,7 +13,7 @@ use Rattle.numbers.specs.Blend.{lerpOf, easeOf, interpolationFactorOf}
 abbrev pub sinceOf : Float → Float → Float
 sinceOf start time = narrowOf (sub binary64 time start)
 
--- "a zero-length span from its start on gives factor 1" (proofs/FactorLaws.antt, as what follows)
+-- "a zero-length span from its start on gives factor 1" (proofs/FactorLaws.antt, as what follows unless said)
 abbrev pub ZeroLengthGives1 : Type 0
 ZeroLengthGives1 = (start end time dt : Float) → sinceOf start end ≡ zero → lt (sinceOf start time) zero ≡ false →
     interpolationFactorOf start end time dt ≡ one
@@ -35,7 +35,7 @@ pub record IsBeforeStart (start end time dt : Float) : Type 0 where
 abbrev pub BeforeStartGives0 : Type 0
 BeforeStartGives0 = (start end time dt : Float) → IsBeforeStart start end time dt → interpolationFactorOf start end time dt ≡ zero
 
--- by which an f32 moves nowhere towards a finite goal
+-- by which an f32 moves nowhere towards a finite goal (proofs/LerpLaws.antt)
 abbrev pub LerpBy0Stays : Type 0
 LerpBy0Stays = (a b : Float) → T (fits binary32 a) → isFinite a ≡ true → isFinite b ≡ true → eq (lerpOf a b zero) a ≡ true
 
