@@ -10,6 +10,7 @@ pub mod RangeLaws
 pub mod StuckLaws
 pub mod EndLaws
 pub mod ZeroLaws
+pub mod PassedLaws
 pub mod MovedLaws
 pub mod ListingLaws
 pub mod ListLaws

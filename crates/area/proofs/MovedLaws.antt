@@ -1,29 +1,22 @@
 -- An axis that no word of an accepted frame moves is not moved by the steps: so the reading by words follows from the narrowest.
 -- Assumes nothing.
 use mathlib.Core.Path.{_≡_, refl, ap, _∙_}
-use mathlib.Core.Logic.{inl, inr}
 use mathlib.Core.Bool.{Bool, true, false, cond, not, _&&_, _||_, true≢false}
 use mathlib.Core.List.{List}
-use Prim.Native.Nat.{ℕ, zero, suc, _+_, _-_, _<_, _≤_}
-use native.Mathlib.Nat.{eq-or-lt-of-le}
-use native.Mathlib.Omega.{arith}
-use borrow.Author.Tests.{eqb-true, not-false}
-use lib.Dec.{eqb}
-use lib.ListN.{length, getD}
-use lib.Ieee.{Float, binary32, eq, ne, lt}
+use Prim.Native.Nat.{ℕ, _+_}
+use lib.ListN.{getD}
+use lib.Ieee.{Float, binary32, eq, ne}
 use Rattle.numbers.specs.F32 as F32
-use Rattle.numbers.specs.Scalar.{absOf, isFinite}
-use Rattle.axis.specs.Limits.{limit, exceedsLimit}
+use Rattle.numbers.specs.Scalar.{isFinite}
 use Rattle.axis.specs.Wheel.{wheelOf}
 use Rattle.axis.specs.declared.physics.AxisPhysics.{AxisPhysics}
 use Rattle.axis.specs.declared.wheel.WheelScroll.{WheelScroll}
 use Rattle.axis.specs.declared.wheel.Wheeled.{Wheeled}
 use Rattle.area.specs.Pair.{num, flag}
 use Rattle.area.specs.Layout as At
-use Rattle.area.specs.Layout.{layout, rows, rowAt, rowNo}
 use Rattle.area.specs.Frame.{flagNo, numberNo, pairNo, pos2No, maybePos2No, barResponseNo, scrollTargetNo, maybeScrollTargetNo}
 use Rattle.area.specs.Frame.{targetRequestNo, settingsOf, hostOf, contentOf, frameOf}
-use Rattle.area.specs.Checks.{isHeeded, shows3, isShown, showsNo, anyShows, frameRefusal, stateRefusal, refusalOf}
+use Rattle.area.specs.Checks.{refusalOf}
 use Rattle.area.specs.Geometry.{pickOf}
 use Rattle.area.specs.Adjust.{requestAt, viewOf, askedBy, askedOf, askedAt, movedBy, unadjusted, adjustedBy, adjustedOf}
 use Rattle.area.specs.WheelTurn.{wheelScrollOf, wheelPhysicsOf, taken, untaken, unheard, turnedBy, turnedOf}
@@ -53,6 +46,7 @@ use Rattle.area.proofs.TestLaws as Test
 use Rattle.area.proofs.TestLaws.{neither, not-left, not-right, fails-left, fails-right, turned-true, turned-false, either}
 use Rattle.area.proofs.ZeroLaws.{IsZero, add-zeros, mul-zero, neg-zero, equals-zero, of-no-other, no-other-than-zero}
 use Rattle.area.proofs.CallLaws.{accepted}
+use Rattle.area.proofs.PassedLaws.{multiplier-finite}
 use Rattle.area.proofs.EndLaws.{StaysOnEnd, stays-x, stays-y}
 
 -- ---- a wheel delta of zero is not taken
@@ -150,59 +144,6 @@ unfolding isMovedIn axisEndedOf finishedOf endedBy
 quiet-unmoved f d e before space x wheel b p q =
     neither _ _ (quiet-undragged f p d q)
     (neither _ _ (quiet-untaken f d before space (x .this) wheel _ _ q) (neither _ _ (quiet-unadjusted f d space (b .motion) q) (quiet-unpressed f d _ q)))
-
--- ---- what an accepted frame tells of a number: check 3 has not shown
-none-shows : (k : ℕ) (s : List ℕ) (n m : ℕ) → anyShows k s n ≡ false → m < n → showsNo k s (suc m) ≡ false
-unfolding anyShows
-none-shows k s zero m h l = absurd (omega arith)
-none-shows k s (suc n) m h l =
-    let at-most : m ≤ n = omega arith in
-    elim (eq-or-lt-of-le at-most) [
-      | inl e ↦ ap (λ (i : ℕ). showsNo k s (suc i)) e ∙ not-right (anyShows k s n) (showsNo k s (suc n)) h
-      | inr b ↦ none-shows k s n m (not-left (anyShows k s n) (showsNo k s (suc n)) h) b
-    ]
-
-abbrev firstOf : Bool → Bool → Bool → Bool → Bool → ℕ
-firstOf long two three four five = cond (not long) 1 (cond two 2 (cond three 3 (cond four 4 (cond five 5 0))))
-
-third-fails : (long two three four five : Bool) → firstOf long two three four five ≡ 0 → three ≡ false
-third-fails false a b c d h = absurd (omega (arith, h))
-third-fails true true b c d h = absurd (omega (arith, h))
-third-fails true false true c d h = absurd (omega (arith, h))
-third-fails true false false c d h = refl
-
-frame-unrefused : (bytes : List ℕ) (S : State) → refusalOf bytes S ≡ 0 → frameRefusal bytes ≡ 0
-unfolding refusalOf
-frame-unrefused bytes S h = go (eqb (frameRefusal bytes) 0) refl h
-  where
-    go : (t : Bool) → eqb (frameRefusal bytes) 0 ≡ t → cond t (stateRefusal S) (frameRefusal bytes) ≡ 0 → frameRefusal bytes ≡ 0
-    go true k e = eqb-true (frameRefusal bytes) 0 k
-    go false k e = e
-
-third-unshown : (bytes : List ℕ) → frameRefusal bytes ≡ 0 → anyShows 3 bytes 104 ≡ false
-unfolding frameRefusal
-third-unshown bytes h =
-    third-fails (eqb (length bytes) 416) (anyShows 2 bytes 104) (anyShows 3 bytes 104) (anyShows 4 bytes 104) (anyShows 5 bytes 104) h
-
-within-limit : (x : Float) → exceedsLimit x ≡ false → isFinite x ≡ true
-unfolding exceedsLimit
-within-limit x h = not-false (isFinite x) (not-left (not (isFinite x)) (lt limit (absOf x)) h)
-
--- the row of a multiplier asks for a number, outside any option
-multiplier-row : (bytes : List ℕ) (d : ℕ) → (exceedsLimit (numberNo bytes (At.wheelScrollMultiplier + d)) || false || false) ≡ false
-    → isFinite (numberNo bytes (At.wheelScrollMultiplier + d)) ≡ true
-multiplier-row bytes d h =
-    let exceeds = exceedsLimit (numberNo bytes (At.wheelScrollMultiplier + d)) in
-    within-limit (numberNo bytes (At.wheelScrollMultiplier + d)) (not-left exceeds false (not-left (exceeds || false) false h))
-
-multiplier-finite : (bytes : List ℕ) (S : State) → refusalOf bytes S ≡ 0
-    → (isFinite (numberNo bytes At.wheelScrollMultiplier) ≡ true) × (isFinite (numberNo bytes (At.wheelScrollMultiplier + 1)) ≡ true)
-unfolding showsNo isHeeded isShown shows3 rowNo rowAt rows layout
-multiplier-finite bytes S h =
-    let unshown = third-unshown bytes (frame-unrefused bytes S h) in
-    let x = none-shows 3 bytes 104 21 unshown (omega arith) in
-    let y = none-shows 3 bytes 104 22 unshown (omega arith) in
-    (multiplier-row bytes 0 x, multiplier-row bytes 1 y)
 
 -- ---- what the words tell
 record Unnamed (bytes : List ℕ) (d : ℕ) : Type 0 where

@@ -1,15 +1,21 @@
 -- Document 01, "Beginning a frame": the corners of a target under way, for every axis and every number, a not-a-number included.
 use mathlib.Core.Path.{_≡_}
 use mathlib.Core.Bool.{true, false}
+use mathlib.Core.List.{List}
+use Prim.Native.Nat.{ℕ}
 use lib.Dec.{T}
-use lib.Ieee.{Float, binary32, lt, eq, fits}
+use lib.Ieee.{Float, binary32, binary64, lt, le, eq, fits}
 use Rattle.numbers.specs.F32.{zero}
 use Rattle.numbers.specs.Scalar.{isFinite}
 use Rattle.numbers.specs.Corners.{sinceOf, IsBeforeStart}
+use Rattle.area.specs.declared.state.State.{State}
 use Rattle.area.specs.declared.state.MaybeTarget.{MaybeTarget}
 use Rattle.area.specs.declared.state.ScrollingToTarget.{ScrollingToTarget}
 use Rattle.area.specs.declared.prepared.AxisBegun.{AxisBegun}
+use Rattle.area.specs.Frame.{frameOf}
+use Rattle.area.specs.Checks.{refusalOf}
 use Rattle.area.specs.Follow.{isNear, arrived, movedBy, approachOf, followedOf}
+use Rattle.area.specs.Begin.{dtOf}
 
 -- "A scroll target under way is kept as nothing, or as a start, an end and a goal": what follows is of the second
 pub under-way : (b : AxisBegun) (t : ScrollingToTarget) (time dt : Float) →
@@ -42,3 +48,8 @@ abbrev pub MovedBy0Stays : Type 0
 MovedBy0Stays = (b : AxisBegun) (t : ScrollingToTarget) →
     T (fits binary32 (b .motion .offset)) → isFinite (b .motion .offset) ≡ true → isFinite (t .«target_offset») ≡ true →
     eq (movedBy b t zero .motion .offset) (b .motion .offset) ≡ true
+
+-- what it asks of time and dt holds in every frame that passes checks 1 to 6 (proofs/PassedLaws.antt)
+abbrev pub FrameTimesHold : Type 0
+FrameTimesHold = (S : State) (bytes : List ℕ) → refusalOf bytes S ≡ 0 →
+    T (fits binary64 (frameOf bytes .host .time)) × (le zero (dtOf (frameOf bytes .host .«stable_dt»)) ≡ true)

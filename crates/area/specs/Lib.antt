@@ -11,8 +11,8 @@ pub mod AxisPhysics
 pub mod Space
 pub mod Drive
 pub mod Follow
-pub mod Corners
 pub mod Begin
+pub mod Corners
 pub mod Adjust
 pub mod Extent
 pub mod WheelTurn
