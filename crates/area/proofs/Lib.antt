@@ -12,6 +12,7 @@ pub mod EndLaws
 pub mod ZeroLaws
 pub mod PassedLaws
 pub mod MovedLaws
+pub mod WithoutInputLaws
 pub mod ListingLaws
 pub mod ListLaws
 pub mod ReplayLaws

@@ -29,4 +29,5 @@ pub mod Steps
 pub mod Moved
 pub mod Listing
 pub mod Lists
+pub mod WithoutInput
 pub mod Replay
