@@ -25,13 +25,13 @@
  *
  * What a host has to do:
  * - Draw by the shown offset: strakobud_offset, after the frame. The viewport in out is where the list stood before it
- *   was put on its end: one frame late where rows arrive, and at an explicit offset that sticking overrides. Nothing is
- *   claimed of it but that it equals egui's.
+ *   was put on its end: one frame late where rows arrive, and at an explicit offset that sticking overrides. Nothing
+ *   is claimed of it beyond its definition.
  * - Set stick_to_end (words 24, 25) in every frame of a list that is to stay on its end: one accepted frame without it
  *   can release the list, for later frames too.
  * - After a refusal the list stands where the last accepted frame left it: a row that came with a bad sample is not
  *   shown. Run the same frame again without its input, that is with 0 in words 15, 17, 54, 57 to 62, 64, 65, 74, 79, 86,
- *   87, 91 and 98. If only input was bad it is accepted, moves nothing, and a list that stuck stands on its end.
+ *   87, 91 and 98: it moves nothing, and where it is accepted, a list that stuck stands on its end.
  */
 #ifndef STRAKOBUD_H
 #define STRAKOBUD_H
