@@ -8,8 +8,8 @@
  * No call allocates, keeps a pointer, or touches anything but what it is handed. The buffers of one call must not
  * overlap, must have at least the lengths named (a frame: len bytes), and nobody else may write them meanwhile.
  * Alignment does not matter. Calls on different buffers may run in different threads. The floating-point environment
- * must be the usual one: rounding to nearest even, no flush to zero, exceptions masked. No call changes it, and the
- * stack that the calls take is measured (README), not proved.
+ * must be the usual one: rounding to nearest even, no flush to zero, exceptions masked. No call changes it, but for its
+ * status flags. The stack that the calls take is measured (README), not proved.
  *
  * Every answer is 0, or the number of a refusal:
  *   1  the frame is not 416 bytes long
@@ -31,7 +31,8 @@
  *   can release the list, for later frames too.
  * - After a refusal the list stands where the last accepted frame left it: a row that came with a bad sample is not
  *   shown. Run the same frame again without its input, that is with 0 in words 15, 17, 54, 57 to 62, 64, 65, 74, 79, 86,
- *   87, 91 and 98: it moves nothing, and where it is accepted, a list that stuck stands on its end.
+ *   87, 91 and 98. Nothing in it moves the list, and where it is accepted, with stick_to_end set, a list that stuck
+ *   stands on its end.
  */
 #ifndef STRAKOBUD_H
 #define STRAKOBUD_H

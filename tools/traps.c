@@ -1,8 +1,10 @@
 /* Runs frames from standard input, one after another from a fresh state, and prints how many of them trap where division by zero,
  * invalid operation and overflow are unmasked, by the frame's answer; and how many of these had a scroll target under way. Each
- * frame is run once for each exception on a copy of the state, and then with all masked, so that the list goes on. */
+ * frame is run once for each exception on a copy of the state, and then with all masked, so that the list goes on. Fails if an
+ * accepted frame without a scroll target under way divides by zero, or if nothing traps here at all. */
 #define _GNU_SOURCE
 #include <fenv.h>
+#include <float.h>
 #include <inttypes.h>
 #include <setjmp.h>
 #include <signal.h>
@@ -11,10 +13,10 @@
 
 #include "strakobud.h"
 
-enum { ANSWERS = 9, KINDS = 3 };
+enum { DIVISION, INVALID, OVERFLOW, KINDS, ANSWERS = 9 };
 
-static const int EXCEPTIONS[KINDS] = {FE_DIVBYZERO, FE_INVALID, FE_OVERFLOW};
-static const char *const NAMES[KINDS] = {"division by zero", "invalid operation", "overflow"};
+static const int EXCEPTIONS[KINDS] = {[DIVISION] = FE_DIVBYZERO, [INVALID] = FE_INVALID, [OVERFLOW] = FE_OVERFLOW};
+static const char *const NAMES[KINDS] = {[DIVISION] = "division by zero", [INVALID] = "invalid operation", [OVERFLOW] = "overflow"};
 
 struct count {
     uint64_t trapped, with_target;
@@ -38,6 +40,21 @@ static int traps(const uint8_t *state, const uint8_t *frame, size_t len, int exc
     if (sigsetjmp(at_trap, 1) == 0) {
         feenableexcept(exception);
         strakobud_frame(copy, frame, len, out);
+    } else {
+        trapped = 1;
+    }
+    fedisableexcept(FE_ALL_EXCEPT);
+    return trapped;
+}
+
+/* Whether a division that is known to raise the exception traps. */
+static int control_traps(float dividend, float divisor, int exception)
+{
+    volatile float x = dividend, y = divisor;
+    volatile int trapped = 0;
+    if (sigsetjmp(at_trap, 1) == 0) {
+        feenableexcept(exception);
+        x = x / y;
     } else {
         trapped = 1;
     }
@@ -69,6 +86,10 @@ int main(void)
     size_t len;
 
     signal(SIGFPE, on_trap);
+    if (!control_traps(1, 0, FE_DIVBYZERO) || !control_traps(0, 0, FE_INVALID) || !control_traps(FLT_MAX, FLT_MIN, FE_OVERFLOW)) {
+        printf("exceptions do not trap here\n");
+        return 1;
+    }
     strakobud_fresh(state);
     while ((len = fread(frame, 1, sizeof frame, stdin)) > 0) {
         int trapped[KINDS], target = has_target(state);
@@ -84,5 +105,5 @@ int main(void)
     for (uint32_t answer = 0; answer < ANSWERS; answer++)
         if (frames[answer] > 0)
             show(answer, frames[answer], counts[answer]);
-    return 0;
+    return counts[0][DIVISION].trapped > counts[0][DIVISION].with_target;
 }

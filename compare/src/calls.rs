@@ -58,7 +58,7 @@ fn compare(tally: &mut Tally, kind: Kind, bytes: &[u8]) {
     let same = (refusal, out) == (rust_refusal, rust_out);
     tally.count(Part::Axis, rust_refusal, same, || {
         let name = kind.name();
-        format!("{name} {bytes:02x?}: library {refusal} {out:02x?}, Rust {rust_refusal} {rust_out:02x?}")
+        format!("{name} {bytes:02x?}: library {refusal} {out:02x?}, oracle {rust_refusal} {rust_out:02x?}")
     });
 }
 

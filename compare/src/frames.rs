@@ -115,7 +115,7 @@ fn compare(
     let library = Side::on(state).library(frame);
     let rust = Side::on(state).rust(frame);
     tally.count(part, rust.refusal, library == rust, || {
-        format!("{}: library {library:02x?}, Rust {rust:02x?}", what())
+        format!("{}: library {library:02x?}, oracle {rust:02x?}", what())
     });
     rust
 }

@@ -49,7 +49,7 @@ MovedBy0Stays = (b : AxisBegun) (t : ScrollingToTarget) →
     T (fits binary32 (b .motion .offset)) → isFinite (b .motion .offset) ≡ true → isFinite (t .«target_offset») ≡ true →
     eq (movedBy b t zero .motion .offset) (b .motion .offset) ≡ true
 
--- what it asks of time and dt holds in every frame that passes checks 1 to 6 (proofs/PassedLaws.antt)
+-- what IsBeforeStart asks of time and dt holds in every frame that passes checks 1 to 6 (proofs/PassedLaws.antt)
 abbrev pub FrameTimesHold : Type 0
 FrameTimesHold = (S : State) (bytes : List ℕ) → refusalOf bytes S ≡ 0 →
     T (fits binary64 (frameOf bytes .host .time)) × (le zero (dtOf (frameOf bytes .host .«stable_dt»)) ≡ true)

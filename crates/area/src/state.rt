@@ -108,7 +108,7 @@ impl State {
         ]
     }
 
-    // Where the content is drawn, past the edge too.
+    // The stored offset: past the edge too, while rubber-banding, where egui itself draws the content.
     pub fn unclamped_offset(self) -> Vec2
         ensures { λ r. ⌜ r ≡ self .offset ⌝ }
     {

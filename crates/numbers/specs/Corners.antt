@@ -43,7 +43,7 @@ LerpBy0Stays = (a b : Float) → T (fits binary32 a) → isFinite a ≡ true →
 abbrev pub StartBeforeEndIsForward : Type 0
 StartBeforeEndIsForward = (start end : Float) → lt start end ≡ true → signBit (sinceOf start end) ≡ false
 
--- a length of -0 turns the quotient's sign round, so neither sentence holds of it: from the start on the factor is 0, before it 1
+-- a length of -0 turns the quotient's sign round, so neither sentence holds of it: at 1 the factor is 0, at -1 it is 1
 pub length-minus-0 :
     (sinceOf zero (neg zero) ≡ neg zero)
     × (interpolationFactorOf zero (neg zero) one zero ≡ zero)

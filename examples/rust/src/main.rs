@@ -51,7 +51,7 @@ impl Frame {
 
 fn shown_offset(state: &strakobud::StateBytes) -> f32 {
     let mut out = [0; 8];
-    strakobud::offset(state, &mut out);
+    assert_eq!(strakobud::offset(state, &mut out), 0, "a damaged state");
     f32::from_le_bytes(out[4..].try_into().expect("four bytes"))
 }
 
