@@ -1,15 +1,15 @@
 -- What a frame that no check turns back tells of its numbers. Assumes nothing.
 use mathlib.Core.Path.{_≡_, refl, ap, _∙_}
 use mathlib.Core.Logic.{inl, inr}
-use mathlib.Core.Bool.{Bool, true, false, cond, not, _&&_, _||_}
+use mathlib.Core.Bool.{Bool, true, false, cond, not, _||_}
 use mathlib.Core.List.{List}
 use Prim.Native.Nat.{ℕ, zero, suc, _+_, _<_, _≤_}
 use native.Mathlib.Nat.{eq-or-lt-of-le}
 use native.Mathlib.Omega.{arith}
 use borrow.Author.Tests.{eqb-true, not-false}
-use lib.Dec.{T, eqb}
+use lib.Dec.{eqb}
 use lib.ListN.{length}
-use lib.Ieee.{Float, binary64, ofBits, fits, lt, le}
+use lib.Ieee.{Float, binary64, ofBits, lt, le}
 use lib.Ieee.Bits.{ofBits-fits}
 use Rattle.numbers.specs.F32 as F32
 use Rattle.numbers.specs.Scalar.{absOf, minOf, isFinite}

@@ -12,7 +12,7 @@ use Rattle.words.specs.Words.{wordAt}
 use Rattle.numbers.specs.F32 as F32
 use Rattle.area.specs.Layout as At
 use Rattle.area.specs.Frame.{wordNo, numberNo, flagNo}
-use Rattle.area.specs.Moved.{wordOn, isOtherThanZero, isMovedByWords}
+use Rattle.area.specs.Moved.{isOtherThanZero, isMovedByWords}
 use Rattle.area.specs.WithoutInput.{isInput, clearedFrom, withoutInput, ShowsWithoutInput}
 use Rattle.area.proofs.TestLaws.{either}
 use Rattle.area.proofs.EndLaws.{StaysOnEnd}

@@ -4,7 +4,7 @@ use mathlib.Core.Bool.{true, false}
 use mathlib.Core.List.{List, [], _∷_, _++_}
 use Prim.Native.Nat.{ℕ, _+_}
 use lib.ListN.{replicate}
-use lib.Ieee.{Float, inf, binary32, ofBits, ofInt}
+use lib.Ieee.{inf, binary32, ofBits, ofInt}
 use Rattle.numbers.specs.F32.{num, zero}
 use Rattle.words.specs.Words.{bytesOf}
 use Rattle.area.specs.State.{clampedOffset}

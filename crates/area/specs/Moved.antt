@@ -6,7 +6,7 @@ use mathlib.Core.Bool.{Bool, true, false, cond, not, _&&_, _||_}
 use mathlib.Core.List.{List}
 use lib.Dec.{eqb}
 use lib.ListN.{getD}
-use lib.Ieee.{Float, eq, ne}
+use lib.Ieee.{eq, ne}
 use Rattle.numbers.specs.F32.{zero}
 use Rattle.area.specs.Pair.{num, flag}
 use Rattle.area.specs.Layout as At

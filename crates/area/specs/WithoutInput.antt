@@ -1,6 +1,6 @@
--- What a host runs after a refusal: the same frame without its input, which shows what the frame had to show.
-use Prim.Native.Nat.{ℕ, zero, suc, _+_, _/_}
-use mathlib.Core.Path.{_≡_}
+-- What a host runs after a refusal: the same frame without its input.
+use Prim.Native.Nat.{ℕ, suc, _+_, _/_}
+use mathlib.Core.Path.{_≡_, refl}
 use mathlib.Core.Bool.{Bool, true, false, cond, _||_}
 use mathlib.Core.List.{List, [], _∷_}
 use lib.Dec.{eqb}
@@ -34,6 +34,10 @@ inputWords =
     ∷ At.targetX
     ∷ At.targetY
     ∷ []
+
+-- as the header has them
+input-words-are : inputWords ≡ 15 ∷ 17 ∷ 54 ∷ 57 ∷ 58 ∷ 59 ∷ 60 ∷ 61 ∷ 62 ∷ 64 ∷ 65 ∷ 74 ∷ 79 ∷ 86 ∷ 87 ∷ 91 ∷ 98 ∷ []
+input-words-are = refl
 
 abbrev isAmong : List ℕ → ℕ → Bool
 isAmong [] n = false

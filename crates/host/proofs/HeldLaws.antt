@@ -9,7 +9,7 @@ use Rattle.area.specs.declared.state.MaybeTarget.{MaybeTarget}
 use Rattle.area.specs.declared.state.MaybePress.{MaybePress}
 use Rattle.area.specs.declared.state.MaybeRect.{MaybeRect}
 use Rattle.host.specs.Record.{maybeTargetNo, offsetTargetNo, maybePressNo, startOffsetNo, stateOf}
-use Rattle.host.specs.Record.{Is32, Is64, ArePair, AreFlags, IsTarget, AreTargets, IsPress, ArePresses, IsRect, IsHeld}
+use Rattle.host.specs.Record.{Is32, Is64, ArePair, AreFlags, IsTarget, IsPress, IsRect, IsHeld}
 
 number : (s : List ℕ) (n : ℕ) → Is32 (numberNo s n)
 unfolding numberNo

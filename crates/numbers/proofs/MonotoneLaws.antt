@@ -7,7 +7,7 @@ use native.Mathlib.Nat.{lt-of-lt-of-le, mul-right-comm, eq-or-lt-of-le, le-of-eq
 use native.Mathlib.Omega.{arith}
 use lib.Dec.{T, ltb, eqb, ltb→lt, lt→ltb, eqb→eq}
 use borrow.Author.Tests.{ltb-true, ltb-false, lt-ltb}
-use lib.IntN.{ℤ, pos}
+use lib.IntN.{ℤ}
 use lib.Ieee.{Float, Format, nan, inf, fin, binary32, prec, emax, low, up, down, odd, units, round, sum, add, sub, neg, below, level, lt, le, fits, ofBits}
 use lib.Ieee.Fits.{down-pos, round-is, and-i, and-l, and-r, eq→eqb}
 use lib.Ieee.Order.{round-mono}
