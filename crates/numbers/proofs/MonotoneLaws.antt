@@ -47,16 +47,16 @@ le-or a b q k h = go (ltb a b) (λ t. ltb→lt a b t) h
 both-zero : (a b : ℕ) → a + b ≤ 0 → T (eqb a b && eqb a 0)
 both-zero a b h = and-i (eqb a b) (eqb a 0) (eq→eqb {a = a} {b = b} (omega arith)) (eq→eqb {a = a} {b = 0} (omega arith))
 
-abbrev IsLess : Bool → ℕ → Bool → ℕ → Type 0
-IsLess s a t b = above s a + beneath t b ≤ above t b + beneath s a
+abbrev pub IsAtMost : Bool → ℕ → Bool → ℕ → Type 0
+IsAtMost s a t b = above s a + beneath t b ≤ above t b + beneath s a
 
-to-le : (s t : Bool) (a b : ℕ) → IsLess s a t b → T (below s a t b || level s a t b)
+pub to-le : (s t : Bool) (a b : ℕ) → IsAtMost s a t b → T (below s a t b || level s a t b)
 to-le false false a b h = or-le a b (eqb a b && true) (λ e. and-i (eqb a b) true (eq→eqb e) tt) (omega arith)
 to-le true true a b h = or-le b a (eqb a b && true) (λ e. and-i (eqb a b) true (eq→eqb (sym e)) tt) (omega arith)
 to-le true false a b h = or-le 0 (a + b) (eqb a b && eqb a 0) (λ e. both-zero a b (le-of-eq (sym e))) zero-le
 to-le false true a b h = both-zero a b h
 
-of-le : (s t : Bool) (a b : ℕ) → T (below s a t b || level s a t b) → IsLess s a t b
+pub of-le : (s t : Bool) (a b : ℕ) → T (below s a t b || level s a t b) → IsAtMost s a t b
 of-le false false a b h = let l = le-or a b (eqb a b && true) (λ t. eqb→eq a b (and-l (eqb a b) true t)) h in omega arith
 of-le true true a b h = let l = le-or b a (eqb a b && true) (λ t. sym (eqb→eq a b (and-l (eqb a b) true t))) h in omega arith
 of-le true false a b h = zero-le
@@ -64,11 +64,11 @@ of-le false true a b h =
     let p = eqb→eq a b (and-l (eqb a b) (eqb a 0) h) in
     let q = eqb→eq a 0 (and-r (eqb a b) (eqb a 0) h) in omega arith
 
-above-mul : (s : Bool) (a b : ℕ) → above s (a * b) ≡ above s a * b
+pub above-mul : (s : Bool) (a b : ℕ) → above s (a * b) ≡ above s a * b
 above-mul true a b = omega arith
 above-mul false a b = refl
 
-beneath-mul : (s : Bool) (a b : ℕ) → beneath s (a * b) ≡ beneath s a * b
+pub beneath-mul : (s : Bool) (a b : ℕ) → beneath s (a * b) ≡ beneath s a * b
 beneath-mul true a b = refl
 beneath-mul false a b = omega arith
 
@@ -127,7 +127,7 @@ apart (fin false m e) (fin t n d) p q = absurd (false≢true p)
 abbrev pub IsRounded : Format → ℕ → ℕ → ℕ → Float → Type 0
 IsRounded f p n c x = ((p ≤ n) × (x ≡ round f true (n - p) c)) ⊎ ((n ≤ p) × (x ≡ round f false (p - n) c))
 
-neg-le : (x y : Float) → T (le x y) → T (le (neg y) (neg x))
+pub neg-le : (x y : Float) → T (le x y) → T (le (neg y) (neg x))
 unfolding le neg
 neg-le nan y h = absurd h
 neg-le (inf s) nan h = absurd h
@@ -143,7 +143,7 @@ neg-le (fin s m e) (inf false) h = tt
 neg-le (fin s m e) (fin t n d) h =
     to-le (not t) (not s) (n * up d * down e) (m * up e * down d) (turned s t (m * up e * down d) (n * up d * down e) (of-le s t _ _ h))
   where
-    turned : (s t : Bool) (a b : ℕ) → IsLess s a t b → IsLess (not t) b (not s) a
+    turned : (s t : Bool) (a b : ℕ) → IsAtMost s a t b → IsAtMost (not t) b (not s) a
     turned true true a b h = omega arith
     turned true false a b h = omega arith
     turned false true a b h = omega arith
@@ -167,7 +167,7 @@ zeros : (f : Format) (a b c d : ℕ) → a ≡ 0 → b ≡ 0 → 0 < c → 0 < d
 unfolding le
 zeros f a b c d p q C D = rw (round-0 f false a c p C, round-0 f true b d q D) tt
 
-rounded-mono : (f : Format) (p n c q r d : ℕ) (x y : Float) → 0 < c → 0 < d → p * d + r * c ≤ q * c + n * d
+pub rounded-mono : (f : Format) (p n c q r d : ℕ) (x y : Float) → 0 < c → 0 < d → p * d + r * c ≤ q * c + n * d
     → IsRounded f p n c x → IsRounded f q r d y → T (le x y)
 rounded-mono f p n c q r d x y C D h (inl (k, i)) (inl (l, j)) =
     rw (i, j, ← neg-round f (n - p) c, ← neg-round f (r - q) d)
@@ -208,16 +208,16 @@ sum-rounded f true a false b c = go (ltb a b) (ltb b a) refl refl
         let l = ltb-false a b h in
         let g = ltb-false b a k in inr (omega arith, ap (λ (k : ℕ). round f false k c) (omega arith))
 
-one-rounded : (f : Format) (s : Bool) (a c : ℕ) → IsRounded f (above s a) (beneath s a) c (round f s a c)
+pub one-rounded : (f : Format) (s : Bool) (a c : ℕ) → IsRounded f (above s a) (beneath s a) c (round f s a c)
 one-rounded f true a c = inl (zero-le, ap (λ (k : ℕ). round f true k c) (omega arith))
 one-rounded f false a c = inr (zero-le, ap (λ (k : ℕ). round f false k c) (omega arith))
 
 -- ---- narrowing
 
-at-once : (s : Bool) (a : ℕ) (t : Bool) (b c d : ℕ) → IsLess s (a * d) t (b * c) → above s a * d + beneath t b * c ≤ above t b * c + beneath s a * d
+pub at-once : (s : Bool) (a : ℕ) (t : Bool) (b c d : ℕ) → IsAtMost s (a * d) t (b * c) → above s a * d + beneath t b * c ≤ above t b * c + beneath s a * d
 at-once s a t b c d h = simp (above-mul, beneath-mul) at h
 
-apart-again : (s : Bool) (a : ℕ) (t : Bool) (b c d : ℕ) → above s a * d + beneath t b * c ≤ above t b * c + beneath s a * d → IsLess s (a * d) t (b * c)
+pub apart-again : (s : Bool) (a : ℕ) (t : Bool) (b c d : ℕ) → above s a * d + beneath t b * c ≤ above t b * c + beneath s a * d → IsAtMost s (a * d) t (b * c)
 apart-again s a t b c d h = simp (above-mul, beneath-mul) h
 
 pub narrow-mono : (x y : Float) → T (le x y) → T (le (narrowOf x) (narrowOf y))
@@ -239,13 +239,13 @@ narrow-mono (fin s m e) (fin t n d) h =
 -- ---- a difference
 
 -- x / e ≤ y / d, each as what lies above zero less what lies beneath; both with w / g added
-cross : (x⁺ x⁻ y⁺ y⁻ w⁺ w⁻ e d g : ℕ) → x⁺ * d + y⁻ * e ≤ y⁺ * e + x⁻ * d
+pub cross : (x⁺ x⁻ y⁺ y⁻ w⁺ w⁻ e d g : ℕ) → x⁺ * d + y⁻ * e ≤ y⁺ * e + x⁻ * d
     → (x⁺ * g + w⁺ * e) * (d * g) + (y⁻ * g + w⁻ * d) * (e * g) ≤ (y⁺ * g + w⁺ * d) * (e * g) + (x⁻ * g + w⁻ * e) * (d * g)
 cross x⁺ x⁻ y⁺ y⁻ w⁺ w⁻ e d g h =
     let k = simp (add-mul, mul-assoc) at (mul-le-mul-right (g * g) h) in
     simp (add-mul, mul-assoc, mul-left-comm) (omega arith)
 
-sums-mono : (f : Format) (s : Bool) (a : ℕ) (t : Bool) (b : ℕ) (w : Bool) (z e d g : ℕ) → 0 < e → 0 < d → 0 < g → IsLess s (a * d) t (b * e)
+sums-mono : (f : Format) (s : Bool) (a : ℕ) (t : Bool) (b : ℕ) (w : Bool) (z e d g : ℕ) → 0 < e → 0 < d → 0 < g → IsAtMost s (a * d) t (b * e)
     → T (le (sum f s (a * g) w (z * e) (e * g)) (sum f t (b * g) w (z * d) (d * g)))
 sums-mono f s a t b w z e d g E D G h =
     rounded-mono f _ _ (e * g) _ _ (d * g) _ _ (mul-pos E G) (mul-pos D G)
@@ -301,7 +301,7 @@ by-value (fin t n d) (fin u k g) s m e v h =
     (sym (beneath-mul s r (down e)) ∙ ap (beneath s) (v .1) ∙ beneath-mul s (m * up e) (down g))
     (at-once t (n * up d) s r (down d) (down g) (of-le t s _ _ l))))
 
-none-above : (v : Bool) (q e h : ℕ) → IsLess false (0 * 1 * h) v (q * 1) → above (not v) (q * e) ≡ 0
+none-above : (v : Bool) (q e h : ℕ) → IsAtMost false (0 * 1 * h) v (q * 1) → above (not v) (q * e) ≡ 0
 none-above false q e h l = refl
 none-above true q e h l = let z : q ≡ 0 = omega arith in ap (λ (k : ℕ). k * e) z ∙ omega arith
 
@@ -336,7 +336,7 @@ sub-less f (fin s m e) (fin v q g) t p h =
 some : (b d : ℕ) → 0 < b * 1 + 0 * 1 * d → 0 < b
 some b d h = omega arith
 
-less-stays : (s t : Bool) (a b e d : ℕ) → 0 < e → IsLess s (a * d) t (b * e) → below t (b * 1) false (0 * 1 * d) ≡ true → below s (a * 1) false (0 * 1 * e) ≡ true
+less-stays : (s t : Bool) (a b e d : ℕ) → 0 < e → IsAtMost s (a * d) t (b * e) → below t (b * 1) false (0 * 1 * d) ≡ true → below s (a * 1) false (0 * 1 * e) ≡ true
 less-stays s false a b e d E h p = absurd (no-less b d (ltb-true (b * 1) (0 * 1 * d) p))
   where
     no-less : (b d : ℕ) → b * 1 < 0 * 1 * d → ⊥

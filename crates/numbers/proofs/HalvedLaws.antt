@@ -1,0 +1,78 @@
+-- One halving: the code's, by the number of halvings left, is the definition's; and where the half lies. Assumes nothing.
+use mathlib.Core.Path.{_≡_, refl, sym, ap, _∙_}
+use mathlib.Core.Bool.{Bool, true, false, _&&_, false≢true}
+use Prim.Native.Nat.{ℕ, zero, suc, _-_, _<_}
+use native.Mathlib.Nat.{zero-lt-suc}
+use native.Mathlib.Numerals.{sub-one}
+use borrow.Author.Tests.{lt-ltb, ltb-true}
+use lib.Dec.{T, ltb}
+use lib.IntN.{pos}
+use lib.Ieee.{Float, fin, neg, div, ofBits, lt, le, eq}
+use Rattle.numbers.specs.F32.{over, two, sixteen, eighty}
+use Rattle.numbers.specs.F32 as F32
+use Rattle.numbers.specs.Scalar.{powi2Of, isFinite}
+use Rattle.numbers.specs.Exp.{byTable, halvedOf, expOf}
+use Rattle.numbers.proofs.WithinLaws.{Within, wider, at-least, quotient}
+
+-- ---- the code's halving
+
+and-one : (a b : Bool) → (a && b) ≡ true → a ≡ true
+and-one true b h = refl
+and-one false b h = h
+
+and-two : (a b : Bool) → (a && b) ≡ true → b ≡ true
+and-two true b h = h
+and-two false b h = absurd (false≢true h)
+
+-- a halving is left
+pub some-left : (left : ℕ) (below : Bool) → (ltb 0 left && below) ≡ true → 0 < left
+some-left left below h = ltb-true 0 left (and-one (ltb 0 left) below h)
+
+pub halves : (left : ℕ) (x e : Float) → (ltb 0 left && lt x (neg sixteen)) ≡ true → e ≡ halvedOf (left - 1) (over x two)
+    → powi2Of e ≡ halvedOf left x
+unfolding halvedOf
+halves zero x e h is = absurd (false≢true h)
+halves (suc left) x e h is = rw (is, sub-one (suc left), and-two (ltb 0 (suc left)) (lt x (neg sixteen)) h)
+
+pub rests : (left : ℕ) (x : Float) → (ltb 0 left && lt x (neg sixteen)) ≡ false → byTable x ≡ halvedOf left x
+unfolding halvedOf
+rests zero x h = refl
+rests (suc left) x h = rw (sym (ap (λ (t : Bool). t && lt x (neg sixteen)) (lt-ltb 0 (suc left) (zero-lt-suc left))) ∙ h)
+
+-- ---- the definition's
+
+pub goes-on : (left : ℕ) (x : Float) → lt x (neg sixteen) ≡ true → halvedOf (suc left) x ≡ powi2Of (halvedOf left (over x two))
+unfolding halvedOf
+goes-on left x h = rw h
+
+pub stops : (left : ℕ) (x : Float) → lt x (neg sixteen) ≡ false → halvedOf left x ≡ byTable x
+unfolding halvedOf
+stops zero x h = refl
+stops (suc left) x h = rw h
+
+-- x from -5 × 2^j to 0: -10, -20, -40, -80
+abbrev pub From : ℕ → Float → Type 0
+From j x = Within (fin true 5 (pos j)) F32.zero x
+
+-- what a computation shows of each j here: half of -5 × 2^(j + 1) is -5 × 2^j
+abbrev pub Halves : ℕ → Type 0
+Halves j = T (le (fin true 5 (pos j)) (over (fin true 5 (pos (suc j))) two))
+
+pub half-from : (j : ℕ) → Halves j → (x : Float) → From (suc j) x → From j (over x two)
+unfolding isFinite div ofBits le lt eq
+half-from j h x w =
+    wider (over (fin true 5 (pos (suc j))) two) (over F32.zero two) (fin true 5 (pos j)) F32.zero (over x two) h tt
+    (quotient (fin true 5 (pos (suc j))) F32.zero x 0 (pos 1) (record { low = refl; high = refl }) w)
+
+pub below-80 : (x : Float) → lt x (neg eighty) ≡ true → expOf x ≡ F32.zero
+unfolding expOf
+below-80 x h = rw h
+
+pub from-80 : (x : Float) → lt x (neg eighty) ≡ false → expOf x ≡ halvedOf 3 x
+unfolding expOf
+from-80 x h = rw h
+
+-- x from -80 to 0
+pub reached : (x : Float) → T (le x F32.zero) → lt x (neg eighty) ≡ false → From 4 x
+unfolding neg ofBits
+reached x l h = (at-least x true 5 (pos 4) l h, l)
