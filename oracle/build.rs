@@ -1,4 +1,4 @@
-//! Puts document 01's meanings into egui's scroll_physics.rs, and fails where that file is not as expected.
+//! Puts the documents' meanings into egui's scroll_physics.rs, and fails where that file is not as expected.
 
 use std::path::Path;
 use std::{env, fs};

@@ -65,6 +65,8 @@ impl Tally {
         for (branch, words) in BRANCHES {
             println!("  {:>12} {words}", count_of(*branch));
         }
+        let met = BRANCHES.iter().filter(|(branch, _)| count_of(*branch) > 0);
+        println!("{} of {} branches met", met.count(), BRANCHES.len());
         println!("{} compared, {} different", self.compared, self.different);
     }
 }

@@ -1,4 +1,4 @@
-//! How often each branch of `begin` and `end` is met; without the feature `branches` nothing is counted.
+//! How often each branch of `begin`, `end` and exp is met; without the feature `branches` nothing is counted.
 
 macro_rules! branches {
     ($($branch:ident $words:literal)*) => {
@@ -19,6 +19,11 @@ branches! {
     DragOnDisabledAxis "background drag, axis not enabled"
     DragStopped "end of a background drag"
     HoldOverscroll "step with the overscroll held"
+    ExpByTable "exp by the table alone"
+    ExpByOneHalving "exp by one halving"
+    ExpByTwoHalvings "exp by two halvings"
+    ExpByThreeHalvings "exp by three halvings"
+    ExpBelow "exp below -80"
     StepMoves "step that moves"
     StepRests "step that rests"
     RubberBandingInBegin "rubber banding after drag or step"

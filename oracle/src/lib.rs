@@ -1,4 +1,4 @@
-//! The oracle: document 01 written out in plain Rust, to compare answers with.
+//! The oracle: the documents written out in plain Rust, to compare answers with.
 
 pub mod axis_calls;
 pub mod axis_vectors;

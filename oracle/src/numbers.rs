@@ -1,4 +1,6 @@
-//! Stand-ins for document 01, section "Numbers", rounded once per operation.
+//! Stand-ins for document 01, section "Numbers", with document 02's exp, rounded once per operation.
+
+use crate::branches::{met, Branch};
 
 /// The sign bit of an f32.
 const SIGN: u32 = 0x8000_0000;
@@ -219,18 +221,43 @@ pub fn interpolation_factor(start: f64, end: f64, time: f64, dt: f32) -> f32 {
     }
 }
 
-/// Document 01: "x < -16 gives 0. Else u = -64 × x, k its whole part"; above 0 it is a not-a-number.
+/// Document 02: "the square, rounded once, of exp of half of x", from -80 up to, but without, -16; "Below -80 it is 0."
+///
+/// Above 0 it is a not-a-number.
 pub fn exp(x: f32) -> f32 {
-    if x < -16.0 {
+    if x < -80.0 {
         return 0.0;
+    }
+    if x < -16.0 {
+        return powi2(exp(x / 2.0));
     }
     if x.is_nan() || 0.0 < x {
         return f32::NAN;
     }
+    exp_by_table(x)
+}
+
+/// Document 01: "u = -64 × x, k its whole part, y = (u - k) / 64", for x from -16 to 0.
+fn exp_by_table(x: f32) -> f32 {
     let u = -64.0 * x;
     let k = u as usize;
     let y = (u - k as f32) / 64.0;
     exp_remainder(y) * exp_of_table(k)
+}
+
+/// Document 02: "repeated until the half is -16 or more", by the argument: once from -32 on, twice from -64 on, thrice from -80 on.
+fn branch_of_exp(x: f32) -> Branch {
+    if x < -80.0 {
+        Branch::ExpBelow
+    } else if x < -64.0 {
+        Branch::ExpByThreeHalvings
+    } else if x < -32.0 {
+        Branch::ExpByTwoHalvings
+    } else if x < -16.0 {
+        Branch::ExpByOneHalving
+    } else {
+        Branch::ExpByTable
+    }
 }
 
 /// Document 01: "q = 1 - y × (1 - y / 2 × (1 - y / 3))".
@@ -280,6 +307,7 @@ impl Stated for f32 {
     }
 
     fn stated_exp(self) -> f32 {
+        met(branch_of_exp(self));
         exp(self)
     }
 }

@@ -1,4 +1,4 @@
-//! egui's scroll_physics.rs under document 01's meanings, and the types that it takes from elsewhere.
+//! egui's scroll_physics.rs under the documents' meanings, and the types that it takes from elsewhere.
 
 /// The style of one axis, as egui's type of that name.
 #[derive(Clone, Copy, Debug, PartialEq)]

@@ -48,7 +48,7 @@ fn every_line_shows_the_operands_and_the_whole_answer() {
 #[test]
 fn the_fixed_list_has_its_size_and_repeats_no_record() {
     let list = fixed_list();
-    assert!((600..=800).contains(&list.len()), "{} calls", list.len());
+    assert_eq!(list.len(), 851);
     assert_no_record_repeats(list.iter().map(Call::input_record).collect());
 }
 
@@ -64,5 +64,41 @@ fn every_refusal_is_met() {
         // A delta within the limit cannot carry a finite offset to infinity.
         assert_eq!(count(&list, Kind::Drag, 8), 0);
         assert_eq!(count(&list, Kind::Wheel, 8), 0);
+    }
+}
+
+/// Whether an accepted step springs, and its exponent; none where it holds or rests.
+fn exponent(call: &Call) -> Option<(bool, f32)> {
+    if call.kind() != Kind::Step || call.refusal() != 0 {
+        return None;
+    }
+    let words = from_bytes(&call.input_record());
+    let number = |place: usize| f32::from_bits(words[1 + place]);
+    let (decay_time, stop_distance) = (number(3), number(4));
+    let (offset, velocity, dt) = (number(6), number(7), number(8));
+    let out = offset < number(0) || number(1) < offset;
+    let left = velocity.abs() * decay_time;
+    if words[1 + 5] == 1 && out {
+        (words[1 + 9] == 0).then_some((true, -10.0 * dt))
+    } else {
+        (stop_distance <= left && left.is_finite()).then_some((false, -dt / decay_time))
+    }
+}
+
+/// From -16 on by the table, from -32 on by one halving, from -64 on by two, from -80 on by three, below it 0.
+#[test]
+fn coasts_and_springs_meet_every_number_of_halvings() {
+    for (list, least) in [(fixed_list(), 4), (random_list(1, 30_000), 60)] {
+        let exponents: Vec<(bool, f32)> = list.iter().filter_map(exponent).collect();
+        let ends = [f32::INFINITY, -16.0, -32.0, -64.0, -80.0, f32::NEG_INFINITY];
+        for springs in [false, true] {
+            for pair in ends.windows(2) {
+                let inside = |x: f32| pair[1] <= x && x < pair[0];
+                let met = exponents
+                    .iter()
+                    .filter(|one| one.0 == springs && inside(one.1));
+                assert!(met.count() >= least, "{springs} {pair:?}");
+            }
+        }
     }
 }

@@ -33,9 +33,25 @@ fn every_line_shows_the_operands_of_its_record() {
 #[test]
 fn the_fixed_list_has_every_call_and_its_size() {
     let list = fixed_list();
-    assert_eq!(list.len(), 597);
+    assert_eq!(list.len(), 621);
     for number in 1..=CALLS.len() {
         assert!(list.iter().any(|call| call.number() == number), "{number}");
+    }
+}
+
+/// From -16 on by the table, from -32 on by one halving, from -64 on by two, from -80 on by three, below it 0.
+#[test]
+fn exp_is_asked_for_every_number_of_halvings() {
+    let exp = CALLS.iter().position(|call| call.0 == "exp").expect("exp") + 1;
+    for (list, least) in [(fixed_list(), 3), (random_list(1, 23_000), 60)] {
+        let calls = list.iter().filter(|call| call.number() == exp);
+        let words = calls.map(|call| from_bytes(&call.input_record())[1]);
+        let asked: Vec<f32> = words.map(f32::from_bits).collect();
+        let ends = [0.0, -16.0, -32.0, -64.0, -80.0, f32::NEG_INFINITY];
+        for pair in ends.windows(2) {
+            let met = asked.iter().filter(|x| pair[1] <= **x && **x < pair[0]);
+            assert!(met.count() >= least, "{pair:?}");
+        }
     }
 }
 

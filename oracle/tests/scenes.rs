@@ -1,8 +1,13 @@
 //! What the scenes meet.
 
+use oracle::frame::Fields;
+use oracle::frame_begin::{begin, dt};
 use oracle::frame_call::{run, Output};
 use oracle::frame_state::State;
+use oracle::numbers::flag_as_number;
 use oracle::scenes::scene_list;
+use oracle::scroll_physics::MouseWheelSource;
+use oracle::words::INF;
 
 fn word(frame: &[u8], number: usize) -> u32 {
     let end = 4 * number;
@@ -113,4 +118,84 @@ fn what_is_accepted_is_finite_and_what_is_refused_changes_nothing() {
             assert_eq!(output.record(), [0; 25]);
         }
     }
+}
+
+/// For each axis that springs or coasts in an accepted frame on that state: whether it springs, and its exponent.
+fn exponents(state: State, frame: &[u8]) -> Vec<(bool, f32)> {
+    let fields = Fields::of(frame);
+    let (settings, host) = (fields.settings, fields.host);
+    let prepared = begin(state, &fields);
+    let drag = prepared.background_drag_response;
+    if drag.is_some_and(|response| response.dragged) {
+        return Vec::new();
+    }
+    let released = drag.is_some_and(|response| response.drag_stopped);
+    let held = host.scroll_source == Some(MouseWheelSource::Trackpad)
+        && host.rect_contains_pointer(prepared.inner_rect);
+    let axes = (0..2).filter_map(|d| {
+        let physics = prepared.axis_physics[d];
+        let offset = [settings.offset_x, settings.offset_y][d].unwrap_or(state.offset[d]);
+        if physics.is_rubber_banding(offset) {
+            return (!held).then_some((true, -10.0 * dt(&fields)));
+        }
+        let thrown = flag_as_number(settings.direction_enabled[d]) * host.pointer_velocity[d];
+        let velocity = if released { thrown } else { state.vel[d] };
+        let left = velocity.abs() * physics.style.decay_time;
+        let coasts = physics.style.stop_distance <= left && left.is_finite();
+        // A velocity of 0 would not show what exp is.
+        (coasts && velocity != 0.0).then_some((false, -dt(&fields) / physics.style.decay_time))
+    });
+    axes.collect()
+}
+
+/// dt is cut at 0.1, so that a spring's exponent is -1 at the least, and a coast's -102.4.
+#[test]
+fn coasts_meet_every_number_of_halvings_and_springs_need_none() {
+    let mut state = State::default();
+    let mut met = Vec::new();
+    for (frame, output) in played(8, 20_000) {
+        if output.refusal == 0 {
+            met.extend(exponents(state, &frame));
+            state = output.state;
+        }
+    }
+    let count = |springs, low: f32, high: f32| {
+        let inside = |x: f32| low <= x && x < high;
+        let found = met.iter().filter(|one| one.0 == springs && inside(one.1));
+        found.count()
+    };
+    let ends = [INF, -16.0, -32.0, -64.0, -80.0, -INF];
+    for pair in ends.windows(2) {
+        assert!(count(false, pair[1], pair[0]) >= 40, "{pair:?}");
+    }
+    assert!(count(true, -1.0, -0.1) >= 40);
+    assert_eq!(count(true, -INF, -1.0) + count(false, -INF, -102.5), 0);
+    // The ends themselves.
+    for end in &ends[1..5] {
+        assert!(met.contains(&(false, *end)), "{end}");
+    }
+}
+
+/// That each branch is met so often in a list of scenes; a frame counts when it is made and when it is run.
+#[cfg(feature = "branches")]
+fn assert_every_branch_is_met(seed: u64, count: usize, least: u64) {
+    use oracle::branches::{count_of, BRANCHES};
+    played(seed, count);
+    for (branch, words) in BRANCHES {
+        let met = count_of(*branch) / 2;
+        assert!(met >= least, "{words}: {met}");
+    }
+}
+
+#[cfg(feature = "branches")]
+#[test]
+fn every_branch_is_met() {
+    assert_every_branch_is_met(9, 20_000, 10);
+}
+
+/// The list that is stored for the gate.
+#[cfg(feature = "branches")]
+#[test]
+fn the_stored_frames_meet_every_branch() {
+    assert_every_branch_is_met(2030, 640, 1);
 }

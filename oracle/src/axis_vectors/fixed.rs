@@ -32,12 +32,14 @@ const DRAGS: [Group; 8] = [
     fixed_drag::strange_bounds,
 ];
 
-const STEPS: [Group; 8] = [
+const STEPS: [Group; 10] = [
     fixed_step::coasting,
     fixed_step::ends_of_the_exponent,
+    fixed_step::short_decays,
     fixed_step::resting,
     fixed_step::zeros,
     fixed_step::springing,
+    fixed_step::springing_for_long,
     fixed_step::roundings,
     fixed_step::settling,
     fixed_step::holding,

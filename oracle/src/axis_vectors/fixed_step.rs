@@ -29,10 +29,12 @@ pub(super) fn coasting(list: &mut List) {
     }
 }
 
-/// An exponent of -16 and one step beyond it, where the velocity becomes a zero of its sign.
+/// Exponents at which exp takes one halving more, and -80, below which the velocity becomes a zero of its sign.
 pub(super) fn ends_of_the_exponent(list: &mut List) {
-    for dt in around(16.0) {
-        list.add(PLAIN.step(100.0, -50.0, dt, false));
+    for end in [16.0, 32.0, 64.0, 80.0] {
+        for dt in around(end) {
+            list.add(PLAIN.step(100.0, -50.0, dt, false));
+        }
     }
     let short = Scene {
         decay_time: SHORTEST_DECAY,
@@ -44,6 +46,24 @@ pub(super) fn ends_of_the_exponent(list: &mut List) {
     }
     list.add(short.step(100.0, 1.0, LIMIT, false));
     list.add(PLAIN.step(100.0, 50.0, SMALLEST, false));
+}
+
+/// Short decay times and long frames up to 0.1, with exponents down to -102.4; down to -80 fast enough that a velocity stays.
+pub(super) fn short_decays(list: &mut List) {
+    let short = Scene {
+        decay_time: SHORTEST_DECAY,
+        stop_distance: 0.01,
+        ..PLAIN
+    };
+    let longer = Scene {
+        decay_time: 0.0015,
+        ..short
+    };
+    for dt in [0.01, 0.02, 0.05, 0.07, 0.1] {
+        list.add(short.step(150.0, 900.0, dt, false));
+        list.add(short.step(0.3, -LARGEST, dt, false));
+        list.add(longer.step(310.0, -900.0, dt, false));
+    }
 }
 
 /// A remaining distance around stop_distance, and around the infinite: a rest leaves the offset.
@@ -90,7 +110,7 @@ pub(super) fn zeros(list: &mut List) {
     list.add(scene.step(150.0, 20.0, -0.0, false));
 }
 
-/// From both sides, at rest, outwards and inwards, up to an exponent of -16 and beyond.
+/// From both sides, at rest, outwards and inwards, up to an exponent of -16 and a halving beyond.
 pub(super) fn springing(list: &mut List) {
     for velocity in [0.0, 200.0, -200.0] {
         list.add(RUBBER.step(340.0, velocity, FRAME, false));
@@ -100,6 +120,25 @@ pub(super) fn springing(list: &mut List) {
     }
     list.add(RUBBER.step(310.0, 3000.0, FRAME, false));
     list.add(RUBBER.step(-10.0, 3000.0, 0.1, false));
+}
+
+/// A spring that never settles, at exponents of every number of halvings and one step around their ends.
+pub(super) fn springing_for_long(list: &mut List) {
+    let restless = Scene {
+        stop_distance: 0.0,
+        ..RUBBER
+    };
+    for end in [1.6, 3.2, 6.4, 8.0] {
+        for dt in around(end) {
+            list.add(restless.step(-25.3, 200.0, dt, false));
+        }
+    }
+    for dt in [1.0, 2.0, 5.0, 7.0, 10.0] {
+        list.add(restless.step(340.0, -200.0, dt, false));
+        // So far out and so fast that down to -80 it does not settle.
+        list.add(RUBBER.step(1e30, 1e36, dt, false));
+        list.add(RUBBER.step(-1e33, -1e35, dt, false));
+    }
 }
 
 /// Numbers whose last bit shows the order of the steps and their rounding.

@@ -1,4 +1,4 @@
-//! Axis calls of a host, and the answers that document 01 gives them.
+//! Axis calls of a host, and the answers that the documents give them.
 
 mod answers;
 mod fixed;

@@ -183,16 +183,23 @@ pub fn velocity(random: &mut Random, scene: &Scene) -> f32 {
     }
 }
 
-/// A dt: none, a frame's, near where the exponent reaches -16, longer, or of any size.
+/// Exponents, without their sign, at which exp takes one halving more, and beyond which it is 0.
+pub const ENDS: [f32; 4] = [16.0, 32.0, 64.0, 80.0];
+
+/// A dt: none, a frame's, near where the exponent reaches an end, with an exponent down to -16 or to -96, or of any size.
 pub fn dt(random: &mut Random, scene: &Scene) -> f32 {
+    // What the exponent divides dt by: the coast's time or the spring's.
+    let time = pick(random, &[scene.decay_time, 0.1]);
     match random.below(12) {
         0 => pick(random, &[0.0, -0.0]),
         1..=3 => pick(random, &[0.016, 1.0 / 60.0, 1.0 / 120.0, 0.1]),
-        4..=6 => between(random, 0.0, 0.1),
-        7 => near(random, 16.0 * scene.decay_time),
-        8 => near(random, 1.6),
-        9 => between(random, 0.0, 16.0) * scene.decay_time,
-        10 => between(random, 0.0, 2.0),
+        4 | 5 => between(random, 0.0, 0.1),
+        6 | 7 => {
+            let end = pick(random, &ENDS);
+            near(random, end * time)
+        }
+        8 => between(random, 0.0, 16.0) * time,
+        9 | 10 => between(random, 0.0, 96.0) * time,
         _ => sized(random, -149, 20).abs(),
     }
 }

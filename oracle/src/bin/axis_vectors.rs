@@ -1,4 +1,4 @@
-//! Writes axis calls of a host, and the answers that document 01 gives them; counts the refusals.
+//! Writes axis calls of a host, and the answers that the documents give them; counts the refusals.
 //!
 //! `axis_vectors INPUT OUTPUT` writes the fixed list, `axis_vectors INPUT OUTPUT SEED COUNT` a random one.
 

@@ -1,4 +1,4 @@
-//! Writes calls of the number operations, and the answers that document 01 gives them.
+//! Writes calls of the number operations, and the answers that the documents give them.
 //!
 //! `number_vectors INPUT OUTPUT` writes the fixed list, `number_vectors INPUT OUTPUT SEED COUNT` a random one.
 

@@ -33,6 +33,7 @@ pub fn fixed_list() -> Vec<Call> {
         fixed_rectangles::rectangle_meetings,
         fixed_rectangles::rectangle_points,
         fixed_rounding::ends_of_exp,
+        fixed_rounding::halves_of_exp,
         fixed_rounding::inside_of_exp,
     ];
     for group in groups {

@@ -70,15 +70,29 @@ pub(super) fn widths(list: &mut List) {
     }
 }
 
-/// The ends of the table and one step around them, beyond them, arguments too small to matter.
+/// Where the table ends and the halvings change in number, one step around; within, beyond, too small to matter.
 pub(super) fn ends_of_exp(list: &mut List) {
-    for x in around(-16.0).into_iter().chain(around(-15.984375)) {
-        list.floats("exp", &[x]);
+    for end in [-16.0, -15.984375, -32.0, -64.0, -80.0] {
+        for x in around(end) {
+            list.floats("exp", &[x]);
+        }
     }
-    for x in [-17.0, -100.0, 1e-30, 0.5] {
+    for x in [-17.0, -40.0, -50.0, -79.0, -100.0, 1e-30, 0.5] {
         list.floats("exp", &[x]);
     }
     for bits in [0x8000_0003, 0x8000_0040, 0xb280_0000, 0xb300_0001] {
+        list.words("exp", &[bits]);
+    }
+}
+
+/// Halves that come to -8.5 and one step around it; arguments whose last bit shows that every square is rounded.
+pub(super) fn halves_of_exp(list: &mut List) {
+    for whole in [-17.0, -34.0, -68.0] {
+        for x in around(whole) {
+            list.floats("exp", &[x]);
+        }
+    }
+    for bits in [0xc202_accc, 0xc204_552e, 0xc282_accc, 0xc284_552e] {
         list.words("exp", &[bits]);
     }
 }

@@ -1,4 +1,4 @@
-//! Calls of the number operations, and the answers that document 01 gives them.
+//! Calls of the number operations, and the answers that the documents give them.
 
 mod answers;
 mod fixed;

@@ -82,16 +82,23 @@ fn unit_word(random: &mut Random) -> u32 {
     }
 }
 
-/// A number from -16 to 0, near a multiple of 1/64, or any.
+/// A number from -16 to 0 or from -100, near where the table or the number of halvings changes, or any.
 fn exp_word(random: &mut Random) -> u32 {
-    match random.below(8) {
+    match random.below(12) {
         0 => any_word(random, &[]),
         1 | 2 => {
-            let bits = (random.below(1026) as f32 / -64.0).to_bits();
+            // A multiple of 1/64, or what one to three halvings make one.
+            let parts = (64 >> random.below(4)) as f32;
+            let bits = (random.below(1026) as f32 / -parts).to_bits();
             random.nudge(bits)
         }
-        3 => 0x8000_0000 | random.below(0x4180_0002) as u32,
-        _ => ((random.unit() * -16.1) as f32).to_bits(),
+        3 => {
+            let bits = random.one_of(&[-16.0, -32.0, -64.0, -80.0f32].map(f32::to_bits));
+            random.nudge(bits)
+        }
+        4 => 0x8000_0000 | random.below(0x4180_0002) as u32,
+        5..=7 => ((random.unit() * -16.1) as f32).to_bits(),
+        _ => ((random.unit() * -100.0) as f32).to_bits(),
     }
 }
 

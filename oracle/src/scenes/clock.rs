@@ -46,12 +46,12 @@ impl Clock {
 
     /// The frame at the next time.
     pub fn tick(&mut self, random: &mut Random, frame: Frame) -> Frame {
-        let dt = match random.below(12) {
-            0 => pick(random, &[0.0, -0.0]),
-            1 => pick(random, &[0.1, 0.099_999, 0.25, 1.0, 30.0]),
-            2..=4 => between(random, 0.0, 0.1),
-            _ => pick(random, &[1.0 / 60.0, 0.016, 1.0 / 120.0, 0.033]),
-        };
+        let dt = dt(random);
+        self.pass(random, frame, dt)
+    }
+
+    /// The frame at the time that dt leads to.
+    pub fn pass(&mut self, random: &mut Random, frame: Frame, dt: f32) -> Frame {
         let passed = match self.pace {
             Pace::Forward => f64::from(dt),
             Pace::Standing => 0.0,
@@ -60,5 +60,15 @@ impl Clock {
         };
         self.time = (self.time + passed).clamp(0.0, LATEST);
         frame.with_number(51, dt).with_time(self.time.to_bits())
+    }
+}
+
+/// The length of a frame: mostly a screen's, none, longer than the Rust takes, or up to what it takes.
+pub fn dt(random: &mut Random) -> f32 {
+    match random.below(12) {
+        0 => pick(random, &[0.0, -0.0]),
+        1 => pick(random, &[0.1, 0.099_999, 0.25, 1.0, 30.0]),
+        2..=4 => between(random, 0.0, 0.1),
+        _ => pick(random, &[1.0 / 60.0, 0.016, 1.0 / 120.0, 0.033]),
     }
 }

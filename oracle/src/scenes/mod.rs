@@ -8,6 +8,7 @@ mod hostile;
 mod resets;
 mod resizes;
 mod setting;
+mod short_decays;
 mod stage;
 mod sticking;
 mod targets;
@@ -19,16 +20,17 @@ use stage::Stage;
 pub fn scene_list(seed: u64, count: usize) -> Vec<Vec<u8>> {
     let mut stage = Stage::new(seed, count);
     while !stage.is_full() {
-        match stage.random.below(19) {
+        match stage.random.below(21) {
             0..=2 => sticking::growing_list(&mut stage),
             3..=5 => drags::touch(&mut stage),
-            6..=8 => wheels::gestures(&mut stage),
-            9..=11 => bars::presses(&mut stage),
-            12 => bars::presses_on_narrow_bars(&mut stage),
-            13 | 14 => targets::jumps(&mut stage),
-            15 => targets::clock_over_odd_spans(&mut stage),
-            16 => resizes::resizes(&mut stage),
-            17 => chaos::zeros(&mut stage),
+            6 | 7 => short_decays::flings(&mut stage),
+            8..=10 => wheels::gestures(&mut stage),
+            11..=13 => bars::presses(&mut stage),
+            14 => bars::presses_on_narrow_bars(&mut stage),
+            15 | 16 => targets::jumps(&mut stage),
+            17 => targets::clock_over_odd_spans(&mut stage),
+            18 => resizes::resizes(&mut stage),
+            19 => chaos::zeros(&mut stage),
             _ => chaos::anything(&mut stage),
         }
         resets::sometimes(&mut stage);

@@ -1,6 +1,6 @@
 //! Where scenes are played: the state that the frames so far have left.
 
-use super::clock::Clock;
+use super::clock::{dt, Clock};
 use super::hostile::{odd, spoiled};
 use super::resets::placed;
 use super::setting::setting;
@@ -66,7 +66,13 @@ impl Stage {
 
     /// One frame at the next time, with the content where the offset puts it; in some cases worse.
     pub fn play(&mut self, frame: Frame) {
-        let frame = self.clock.tick(&mut self.random, frame);
+        let dt = dt(&mut self.random);
+        self.play_for(frame, dt);
+    }
+
+    /// The same for that dt.
+    pub fn play_for(&mut self, frame: Frame, dt: f32) {
+        let frame = self.clock.pass(&mut self.random, frame, dt);
         let frame = self.scrolled(frame);
         let frame = match self.random.below(32) {
             0 | 1 => spoiled(&mut self.random, frame),
