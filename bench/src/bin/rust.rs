@@ -1,4 +1,4 @@
-//! The Rust under document 01's stand-ins, on the same records.
+//! The Rust under the documents' stand-ins, on the same records.
 
 fn main() {
     bench::drive(oracle::host_calls::fresh, oracle::host_calls::frame);
