@@ -1,44 +1,22 @@
 -- The order of finite numbers, the clamp to the range of offsets, and the list's end. Assumes nothing.
 use mathlib.Core.Path.{_≡_, refl, sym, ap, _∙_}
-use mathlib.Core.Logic.{inl, inr}
 use mathlib.Core.Bool.{Bool, true, false, cond, _&&_, _||_, true≢false, false≢true}
-use Prim.Native.Nat.{ℕ, _+_, _*_, _≤_}
-use native.Mathlib.Nat.{eq-or-lt-of-le, le-of-lt}
-use native.Mathlib.Omega.{arith}
-use borrow.Author.Tests.{ltb-true, ltb-false, lt-ltb, le-ltb, eq-eqb}
-use lib.Dec.{ltb, eqb}
-use lib.Ieee.{Float, nan, inf, fin, ofBits, up, down, below, level, lt, le, eq}
+use Prim.Native.Nat.{ℕ, _*_}
+use borrow.Author.Tests.{eq-eqb}
+use lib.Dec.{eqb}
+use lib.Ieee.{Float, nan, inf, fin, ofBits, up, down, lt, le, eq}
+use lib.Ieee.Bits.{is-true}
 use Rattle.numbers.specs.F32.{zero}
 use Rattle.numbers.specs.Scalar.{maxOf, isFinite}
 use Rattle.numbers.specs.Range.{clampOf}
 use Rattle.axis.specs.Physics.{scrollBoundsOf}
 use Rattle.area.specs.State.{clampedTo}
-use Rattle.area.proofs.TestLaws.{or-left, or-right, and-both, decided, chosen, either}
+use Rattle.numbers.proofs.WithinLaws as Numbers
+use Rattle.area.proofs.TestLaws.{or-left, or-right, and-both, chosen, either}
 
 -- ---- of two finite numbers one is at or below the other
-at-most : (a b : ℕ) (same : Bool) → (a ≡ b → same ≡ true) → a ≤ b → (ltb a b || (same && true)) ≡ true
-at-most a b same s h = elim (eq-or-lt-of-le h) [
-  | inl e ↦ or-right (ltb a b) (same && true) (and-both same true (s e) refl)
-  | inr l ↦ or-left (ltb a b) (same && true) (lt-ltb a b l)
-]
-
-both-zero : (a b : ℕ) → a + b ≤ 0 → (eqb a b && eqb a 0) ≡ true
-both-zero a b h = and-both (eqb a b) (eqb a 0) (eq-eqb a b (omega arith)) (eq-eqb a 0 (omega arith))
-
-by-sign : (s t : Bool) (a b : ℕ) → below s a t b ≡ false → (below t b s a || level t b s a) ≡ true
-by-sign false false a b h = at-most b a (eqb b a) (eq-eqb b a) (ltb-false a b h)
-by-sign true true a b h = at-most a b (eqb b a) (λ e. eq-eqb b a (sym e)) (ltb-false b a h)
-by-sign true false a b h = both-zero b a (omega (arith, ltb-false 0 (a + b) h))
-by-sign false true a b h =
-    decided (λ (x : Bool). (x || (eqb b a && eqb b 0)) ≡ true) (ltb 0 (b + a)) (λ k. refl) (λ k. both-zero b a (ltb-false 0 (b + a) k))
-
 pub of-not-below : (x y : Float) → isFinite x ≡ true → isFinite y ≡ true → lt x y ≡ false → le y x ≡ true
-unfolding isFinite lt le eq
-of-not-below nan y p q h = absurd (false≢true p)
-of-not-below (inf s) y p q h = absurd (false≢true p)
-of-not-below (fin s m e) nan p q h = absurd (false≢true q)
-of-not-below (fin s m e) (inf t) p q h = absurd (false≢true q)
-of-not-below (fin s m e) (fin t n d) p q h = by-sign s t (m * up e * down d) (n * up d * down e) h
+of-not-below x y p q h = is-true (le y x) (Numbers.of-not-below x y p q h)
 
 -- ---- what else of the order is asked
 itself : (a : ℕ) → (eqb a a && true) ≡ true
@@ -56,27 +34,15 @@ unfolding le
 at-most-itself x p = or-right (lt x x) (eq x x) (equals-itself x p)
 
 of-below : (x y : Float) → lt x y ≡ true → le x y ≡ true
-unfolding le
-of-below x y h = or-left (lt x y) (eq x y) h
+of-below x y h = is-true (le x y) (Numbers.le-of-lt x y h)
 
 -- neither is below the other
 of-neither : (x y : Float) → isFinite x ≡ true → isFinite y ≡ true → lt x y ≡ false → lt y x ≡ false → eq y x ≡ true
 unfolding le
 of-neither x y p q h k = ap (λ (t : Bool). t || eq y x) (sym k) ∙ of-not-below x y p q h
 
-by-sign-once : (s t : Bool) (a b : ℕ) → below s a t b ≡ true → below t b s a ≡ false
-by-sign-once false false a b h = le-ltb b a (le-of-lt (ltb-true a b h))
-by-sign-once true true a b h = le-ltb a b (le-of-lt (ltb-true b a h))
-by-sign-once false true a b h = absurd (false≢true h)
-by-sign-once true false a b h = refl
-
-not-both-below : (x y : Float) → isFinite x ≡ true → isFinite y ≡ true → lt x y ≡ true → lt y x ≡ false
-unfolding isFinite lt
-not-both-below nan y p q h = absurd (false≢true p)
-not-both-below (inf s) y p q h = absurd (false≢true p)
-not-both-below (fin s m e) nan p q h = absurd (false≢true q)
-not-both-below (fin s m e) (inf t) p q h = absurd (false≢true q)
-not-both-below (fin s m e) (fin t n d) p q h = by-sign-once s t (m * up e * down d) (n * up d * down e) h
+not-both-below : (x y : Float) → lt x y ≡ true → lt y x ≡ false
+not-both-below x y h = Numbers.not-below x y (Numbers.le-of-lt x y h)
 
 zero-finite : isFinite zero ≡ true
 unfolding isFinite ofBits
@@ -140,7 +106,7 @@ pub clamp-keeps-end : (maxOffset : Float) → isFinite maxOffset ≡ true → cl
 clamp-keeps-end maxOffset p = go (lt maxOffset zero) refl
   where
     go : (t : Bool) → lt maxOffset zero ≡ t → clampedTo (cond t zero maxOffset) maxOffset ≡ cond t zero maxOffset
-    go true h = clamps-zero maxOffset (not-both-below maxOffset zero p zero-finite h)
+    go true h = clamps-zero maxOffset (not-both-below maxOffset zero h)
     go false h = clamps-to-end maxOffset ∙ ap (λ (t : Bool). cond t zero maxOffset) h
 
 -- it compares equal to the list's end
@@ -150,7 +116,7 @@ end-is-larger maxOffset p = go (lt maxOffset zero) (lt zero maxOffset) refl refl
   where
     go : (below above : Bool) → lt maxOffset zero ≡ below → lt zero maxOffset ≡ above
         → eq (cond below zero maxOffset) (cond above maxOffset zero) ≡ true
-    go true true h k = absurd (true≢false (sym k ∙ not-both-below maxOffset zero p zero-finite h))
+    go true true h k = absurd (true≢false (sym k ∙ not-both-below maxOffset zero h))
     go true false h k = equals-itself zero zero-finite
     go false true h k = equals-itself maxOffset p
     go false false h k = of-neither zero maxOffset zero-finite p k h

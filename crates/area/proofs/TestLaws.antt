@@ -55,11 +55,6 @@ turned-false false q leads h = refl
 
 -- ---- a choice
 
--- by whether a test holds
-pub decided : (P : Bool → Type 0) (t : Bool) → (t ≡ true → P true) → (t ≡ false → P false) → P t
-decided P true p q = p refl
-decided P false p q = q refl
-
 -- what holds of each arm, where it is taken, holds of the choice
 pub chosen : {A : Type 0} (P : A → Type 0) (t : Bool) (x y : A) → (t ≡ true → P x) → (t ≡ false → P y) → P (cond t x y)
 chosen P true x y p q = p refl

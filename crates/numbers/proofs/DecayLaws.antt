@@ -12,18 +12,18 @@ use Rattle.numbers.specs.Scalar.{powi2Of, isFinite}
 use Rattle.numbers.specs.Exp.{byTable, halvedOf, expOf, Decays}
 use Rattle.numbers.proofs.WithinLaws.{Within, le-of-eq, le-trans, wider, at-least, product}
 use Rattle.numbers.proofs.ExpLaws.{power, from-10, from-16}
-use Rattle.numbers.proofs.HalvedLaws.{goes-on, stops, From, Halves, half-from, below-80, from-80, reached}
+use Rattle.numbers.proofs.HalvedLaws.{goes-on, stops, From, IsHalf, half-from, below-80, from-80, reached}
 
 -- ---- with one halving more
 
-module _ (left j k l : ℕ) (halves-to : Halves j) (above-zero : T (le F32.zero (power k)))
+module _ (left j k l : ℕ) (is-half : IsHalf j) (above-zero : T (le F32.zero (power k)))
     (squared : T (le (power l) (powi2Of (power k)))) (above-last : T (le (power l) (power 24)))
     (fewer : (x : Float) → From j x → Within (power k) one (halvedOf left x)) where
   more : (x : Float) → From (suc j) x → (t : Bool) → lt x (neg sixteen) ≡ t → Within (power l) one (halvedOf (suc left) x)
   unfolding isFinite mul neg ofBits le lt eq
   more x w true h =
       let e = halvedOf left (over x two) in
-      let v = fewer (over x two) (half-from j halves-to x w) in
+      let v = fewer (over x two) (half-from j is-half x w) in
       subst (Within (power l) one) (sym (goes-on left x h))
       (wider (powi2Of (power k)) (powi2Of one) (power l) one (powi2Of e) squared tt
       (product (power k) one e (power k) one e (record { low = refl; high = refl }) (record { low = refl; high = refl }) above-zero above-zero v v))

@@ -1,13 +1,15 @@
 -- One halving: the code's, by the number of halvings left, is the definition's; and where the half lies. Assumes nothing.
-use mathlib.Core.Path.{_≡_, refl, sym, ap, _∙_}
+use mathlib.Core.Path.{_≡_, refl, sym, ap, _∙_, subst}
 use mathlib.Core.Bool.{Bool, true, false, _&&_, false≢true}
 use Prim.Native.Nat.{ℕ, zero, suc, _-_, _<_}
 use native.Mathlib.Nat.{zero-lt-suc}
 use native.Mathlib.Numerals.{sub-one}
-use borrow.Author.Tests.{lt-ltb, ltb-true}
-use lib.Dec.{T, ltb}
+use borrow.Author.Tests.{lt-ltb}
+use lib.Dec.{T, ltb, ltb→lt}
 use lib.IntN.{pos}
 use lib.Ieee.{Float, fin, neg, div, ofBits, lt, le, eq}
+use lib.Ieee.Bits.{is-true}
+use lib.Ieee.Fits.{and-l, and-r}
 use Rattle.numbers.specs.F32.{over, two, sixteen, eighty}
 use Rattle.numbers.specs.F32 as F32
 use Rattle.numbers.specs.Scalar.{powi2Of, isFinite}
@@ -16,23 +18,17 @@ use Rattle.numbers.proofs.WithinLaws.{Within, wider, at-least, quotient
 
 -- ---- the code's halving
 
-and-one : (a b : Bool) → (a && b) ≡ true → a ≡ true
-and-one true b h = refl
-and-one false b h = h
-
-and-two : (a b : Bool) → (a && b) ≡ true → b ≡ true
-and-two true b h = h
-and-two false b h = absurd (false≢true h)
-
 -- a halving is left
 pub some-left : (left : ℕ) (below : Bool) → (ltb 0 left && below) ≡ true → 0 < left
-some-left left below h = ltb-true 0 left (and-one (ltb 0 left) below h)
+some-left left below h = ltb→lt 0 left (and-l (ltb 0 left) below (subst T (sym h) tt))
 
 pub halves : (left : ℕ) (x e : Float) → (ltb 0 left && lt x (neg sixteen)) ≡ true → e ≡ halvedOf (left - 1) (over x two)
     → powi2Of e ≡ halvedOf left x
 unfolding halvedOf
 halves zero x e h is = absurd (false≢true h)
-halves (suc left) x e h is = rw (is, sub-one (suc left), and-two (ltb 0 (suc left)) (lt x (neg sixteen)) h)
+halves (suc left) x e h is =
+    let below = is-true (lt x (neg sixteen)) (and-r (ltb 0 (suc left)) (lt x (neg sixteen)) (subst T (sym h) tt)) in
+    rw (is, sub-one (suc left), below)
 
 pub rests : (left : ℕ) (x : Float) → (ltb 0 left && lt x (neg sixteen)) ≡ false → byTable x ≡ halvedOf left x
 unfolding halvedOf
@@ -55,10 +51,10 @@ abbrev pub From : ℕ → Float → Type 0
 From j x = Within (fin true 5 (pos j)) F32.zero x
 
 -- what a computation shows of each j here: half of -5 × 2^(j + 1) is -5 × 2^j
-abbrev pub Halves : ℕ → Type 0
-Halves j = T (le (fin true 5 (pos j)) (over (fin true 5 (pos (suc j))) two))
+abbrev pub IsHalf : ℕ → Type 0
+IsHalf j = T (le (fin true 5 (pos j)) (over (fin true 5 (pos (suc j))) two))
 
-pub half-from : (j : ℕ) → Halves j → (x : Float) → From (suc j) x → From j (over x two)
+pub half-from : (j : ℕ) → IsHalf j → (x : Float) → From (suc j) x → From j (over x two)
 unfolding isFinite div ofBits le lt eq
 half-from j h x w =
     wider (over (fin true 5 (pos (suc j))) two) (over F32.zero two) (fin true 5 (pos j)) F32.zero (over x two) h tt

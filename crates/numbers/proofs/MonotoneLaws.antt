@@ -239,7 +239,7 @@ narrow-mono (fin s m e) (fin t n d) h =
 -- ---- a difference
 
 -- x / e ≤ y / d, each as what lies above zero less what lies beneath; both with w / g added
-pub cross : (x⁺ x⁻ y⁺ y⁻ w⁺ w⁻ e d g : ℕ) → x⁺ * d + y⁻ * e ≤ y⁺ * e + x⁻ * d
+cross : (x⁺ x⁻ y⁺ y⁻ w⁺ w⁻ e d g : ℕ) → x⁺ * d + y⁻ * e ≤ y⁺ * e + x⁻ * d
     → (x⁺ * g + w⁺ * e) * (d * g) + (y⁻ * g + w⁻ * d) * (e * g) ≤ (y⁺ * g + w⁺ * d) * (e * g) + (x⁻ * g + w⁻ * e) * (d * g)
 cross x⁺ x⁻ y⁺ y⁻ w⁺ w⁻ e d g h =
     let k = simp (add-mul, mul-assoc) at (mul-le-mul-right (g * g) h) in

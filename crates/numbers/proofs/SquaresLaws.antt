@@ -10,7 +10,7 @@ use Rattle.numbers.specs.F32 as F32
 use Rattle.numbers.specs.Scalar.{powi2Of}
 use Rattle.numbers.specs.Exp.{byTable, halvedOf, expOf, IsExp, OneExp}
 use Rattle.numbers.proofs.WithinLaws.{le-of-lt, le-trans, at-least, not-below}
-use Rattle.numbers.proofs.HalvedLaws.{goes-on, stops, From, Halves, half-from, below-80, from-80, reached}
+use Rattle.numbers.proofs.HalvedLaws.{goes-on, stops, From, IsHalf, half-from, below-80, from-80, reached}
 
 low : (x : Float) → lt x (neg sixteen) ≡ true → T (le x F32.zero)
 unfolding neg ofBits le lt eq
@@ -31,11 +31,11 @@ module _ (e : ℕ → Float → Float)
   agrees-10 : (x : Float) → From 1 x → e 0 x ≡ halvedOf 0 x
   agrees-10 x w = table 0 x (from-10-on x w) ∙ sym (stops 0 x (from-10-on x w))
 
-  module _ (left j : ℕ) (halves-to : Halves j) (near : T (le (neg eighty) (fin true 5 (pos (suc j)))))
+  module _ (left j : ℕ) (is-half : IsHalf j) (near : T (le (neg eighty) (fin true 5 (pos (suc j)))))
       (fewer : (x : Float) → From j x → e left x ≡ halvedOf left x) where
     agrees-more : (x : Float) → From (suc j) x → (t : Bool) → lt x (neg sixteen) ≡ t → e (suc left) x ≡ halvedOf (suc left) x
     agrees-more x w true h =
-        squares left x (from-80-on (suc j) near x w) h ∙ ap powi2Of (fewer (over x two) (half-from j halves-to x w)) ∙ sym (goes-on left x h)
+        squares left x (from-80-on (suc j) near x w) h ∙ ap powi2Of (fewer (over x two) (half-from j is-half x w)) ∙ sym (goes-on left x h)
     agrees-more x w false h = table (suc left) x h ∙ sym (stops (suc left) x h)
 
   agrees-20 : (x : Float) → From 2 x → e 1 x ≡ halvedOf 1 x
@@ -51,14 +51,14 @@ module _ (e : ℕ → Float → Float)
 enough : (x : Float) → From 3 x → halvedOf 3 x ≡ halvedOf 2 x
 enough = agrees-40 (λ i. halvedOf (suc i)) (λ i x h. goes-on (suc i) x) (λ i. stops (suc i))
 
-halved-from : (x : Float) → lt x (neg eighty) ≡ false → lt x (neg sixteen) ≡ true → From 3 (over x two)
+half-from-40 : (x : Float) → lt x (neg eighty) ≡ false → lt x (neg sixteen) ≡ true → From 3 (over x two)
 unfolding div ofBits le lt eq
-halved-from x h k = half-from 3 tt x (reached x (low x k) h)
+half-from-40 x h k = half-from 3 tt x (reached x (low x k) h)
 
 exp-squares : (x : Float) → lt x (neg eighty) ≡ false → lt x (neg sixteen) ≡ true → expOf x ≡ powi2Of (expOf (over x two))
 unfolding neg ofBits le lt eq
 exp-squares x h k =
-    let w = halved-from x h k in
+    let w = half-from-40 x h k in
     from-80 x h ∙ goes-on 2 x k ∙ ap powi2Of (sym (from-80 (over x two) (from-80-on 3 tt (over x two) w) ∙ enough (over x two) w))
 
 sixteen-eighty : T (le (neg sixteen) (neg eighty)) → ⊥
@@ -88,7 +88,7 @@ only : (e : Float → Float) → IsExp e → (x : Float) (s t : Bool) → lt x (
 only e is x true t h k = is .below x h ∙ sym (below-80 x h)
 only e is x false true h k =
     is .squares x h k
-    ∙ ap powi2Of (agrees-40 (λ i. e) (λ i. is .squares) (λ i. is .table) (over x two) (halved-from x h k))
+    ∙ ap powi2Of (agrees-40 (λ i. e) (λ i. is .squares) (λ i. is .table) (over x two) (half-from-40 x h k))
     ∙ sym (from-80 x h ∙ goes-on 2 x k)
 only e is x false false h k = is .table x k ∙ sym (exp-is .table x k)
 

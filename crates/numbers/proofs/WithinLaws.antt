@@ -1,18 +1,18 @@
 -- Numbers between two: what a product, a quotient by a number above 0 and a difference make of them. Assumes nothing.
-use mathlib.Core.Path.{_≡_, refl, sym, ap, _∙_, subst}
-use mathlib.Core.Bool.{Bool, true, false, _||_, true≢false, false≢true}
-use Prim.Native.Nat.{ℕ, suc, _+_, _*_, _≤_, _<_, zero-le}
+use mathlib.Core.Path.{_≡_, refl, sym, ap, _∙_}
+use mathlib.Core.Bool.{Bool, true, false, cond, not, Bool·not-not, or-true, true≢false, false≢true}
+use Prim.Native.Nat.{ℕ, suc, _+_, _-_, _*_, _≤_, _<_, zero-le}
 use native.Mathlib.Nat.{le-of-mul-le-mul-right, mul-le-mul, mul-le-mul-right, mul-pos, mul-comm, mul-assoc, mul-left-comm, mul-right-comm, mul-mul-mul-comm, zero-mul, mul-zero, add-mul, add-comm, zero-lt-suc}
 use native.Mathlib.Omega.{arith}
-use borrow.Author.Tests.{ltb-false, le-ltb}
-use lib.Dec.{T, eqb·suc-zero}
+use borrow.Author.Tests.{ltb-true, ltb-false, le-ltb}
+use lib.Dec.{T, ltb, eqb·suc-zero}
 use lib.IntN.{ℤ}
 use lib.Ieee.{Float, Format, nan, inf, fin, binary32, up, down, round, sum, add, sub, neg, mul, div, below, lt, le, eq, ofBits, ofInt, unlike}
 use lib.Ieee.Fits.{up-pos, down-pos}
 use lib.Ieee.Order.{round-mono}
 use Rattle.numbers.specs.F32 as F32
 use Rattle.numbers.specs.Scalar.{isFinite}
-use Rattle.numbers.proofs.MonotoneLaws.{above, beneath, IsAtMost, to-le, of-le, at-once, apart-again, above-mul, beneath-mul, cross, neg-le, rounded-mono, one-rounded, sum-rounded}
+use Rattle.numbers.proofs.MonotoneLaws.{above, beneath, IsAtMost, to-le, of-le, at-once, apart-again, above-mul, beneath-mul, neg-le, rounded-mono, one-rounded, sub-mono}
 
 -- l ≤ x ≤ h; zeros of either sign are equal here
 abbrev pub Within : Float → Float → Float → Type 0
@@ -71,21 +71,13 @@ le-trans (fin s m e) (fin t n d) (fin w q g) h k =
 pub wider : (l h l′ h′ x : Float) → T (le l′ l) → T (le h h′) → Within l h x → Within l′ h′ x
 wider l h l′ h′ x p q w = (le-trans l′ l x p (w .0), le-trans x h h′ (w .1) q)
 
-or-one : (a b : Bool) → a ≡ true → T (a || b)
-or-one true b h = tt
-or-one false b h = absurd (false≢true h)
-
-or-two : (a b : Bool) → b ≡ true → T (a || b)
-or-two true b h = tt
-or-two false b h = subst T (sym h) tt
-
 pub le-of-lt : (x y : Float) → lt x y ≡ true → T (le x y)
 unfolding le
-le-of-lt x y h = or-one (lt x y) (eq x y) h
+le-of-lt x y h = rw h tt
 
 pub le-of-eq : (x y : Float) → eq x y ≡ true → T (le x y)
 unfolding le
-le-of-eq x y h = or-two (lt x y) (eq x y) h
+le-of-eq x y h = rw (h, or-true (lt x y)) tt
 
 -- what is not less is at least, of numbers
 not-less : (s t : Bool) (a b : ℕ) → below s a t b ≡ false → IsAtMost t b s a
@@ -94,12 +86,21 @@ not-less false true a b h = zero-le
 not-less true false a b h = let l = ltb-false 0 (a + b) h in omega arith
 not-less true true a b h = let l = ltb-false b a h in omega arith
 
+pub of-not-below : (x y : Float) → isFinite x ≡ true → isFinite y ≡ true → lt x y ≡ false → T (le y x)
+unfolding isFinite le lt
+of-not-below nan y p q h = absurd (false≢true p)
+of-not-below (inf s) y p q h = absurd (false≢true p)
+of-not-below (fin s m e) nan p q h = absurd (false≢true q)
+of-not-below (fin s m e) (inf t) p q h = absurd (false≢true q)
+of-not-below (fin s m e) (fin t n d) p q h = to-le t s (n * up d * down e) (m * up e * down d) (not-less s t _ _ h)
+
+-- and of an x at or below 0, -infinity too
 pub at-least : (x : Float) (t : Bool) (n : ℕ) (d : ℤ) → T (le x F32.zero) → lt x (fin t n d) ≡ false → T (le (fin t n d) x)
-unfolding le lt ofBits
+unfolding isFinite le lt ofBits
 at-least nan t n d h k = absurd h
 at-least (inf true) t n d h k = absurd (true≢false k)
 at-least (inf false) t n d h k = absurd h
-at-least (fin s m e) t n d h k = to-le t s (n * up d * down e) (m * up e * down d) (not-less s t _ _ k)
+at-least (fin s m e) t n d h k = of-not-below (fin s m e) (fin t n d) refl refl k
 
 -- and the other way
 still-less : (s t : Bool) (a b : ℕ) → IsAtMost t b s a → below s a t b ≡ false
@@ -232,32 +233,24 @@ div-mono f (fin s m e) (fin t k g) n d p q h =
 
 -- ---- a difference
 
--- `cross`, where what is added stands first
-crossed : (x⁺ x⁻ y⁺ y⁻ w⁺ w⁻ e d g : ℕ) → x⁺ * d + y⁻ * e ≤ y⁺ * e + x⁻ * d
-    → (w⁺ * e + x⁺ * g) * (g * d) + (w⁻ * d + y⁻ * g) * (g * e) ≤ (w⁺ * d + y⁺ * g) * (g * e) + (w⁻ * e + x⁻ * g) * (g * d)
-crossed x⁺ x⁻ y⁺ y⁻ w⁺ w⁻ e d g h =
-    rw (add-comm (w⁺ * e) (x⁺ * g), add-comm (w⁻ * d) (y⁻ * g), add-comm (w⁺ * d) (y⁺ * g), add-comm (w⁻ * e) (x⁻ * g), mul-comm g d, mul-comm g e)
-    (cross x⁺ x⁻ y⁺ y⁻ w⁺ w⁻ e d g h)
+-- whichever number stands first
+opposed : (f : Format) (a b c : ℕ) → sum f false a true b c ≡ sum f true b false a c
+unfolding sum
+opposed f a b c = go (ltb a b) (ltb b a) refl refl
+  where
+    go : (x y : Bool) → ltb a b ≡ x → ltb b a ≡ y
+        → cond x (round f true (b - a) c) (round f false (a - b) c) ≡ cond y (round f false (a - b) c) (round f x (b - a) c)
+    go true true p q = absurd (omega (arith, ltb-true a b p, ltb-true b a q))
+    go true false p q = refl
+    go false true p q = refl
+    go false false p q = ap (λ (k : ℕ). round f false k c) (omega (arith, ltb-false a b p, ltb-false b a q))
 
-sums : (f : Format) (s : Bool) (a : ℕ) (t : Bool) (b : ℕ) (w : Bool) (c e d g : ℕ) → 0 < e → 0 < d → 0 < g → IsAtMost s (a * d) t (b * e)
-    → T (le (sum f w (c * e) s (a * g) (g * e)) (sum f w (c * d) t (b * g) (g * d)))
-sums f s a t b w c e d g E D G h =
-    rounded-mono f _ _ (g * e) _ _ (g * d) _ _ (mul-pos G E) (mul-pos G D)
-    (simp (above-mul, beneath-mul)
-    (crossed (above s a) (beneath s a) (above t b) (beneath t b) (above w c) (beneath w c) e d g (at-once s a t b e d h)))
-    (sum-rounded f w (c * e) s (a * g) (g * e))
-    (sum-rounded f w (c * d) t (b * g) (g * d))
-
-add-mono : (f : Format) (z x y : Float) → isFinite z ≡ true → isFinite x ≡ true → isFinite y ≡ true → T (le x y) → T (le (add f z x) (add f z y))
-unfolding add le isFinite
-add-mono f nan x y r p q h = absurd (false≢true r)
-add-mono f (inf w) x y r p q h = absurd (false≢true r)
-add-mono f (fin w k g) nan y r p q h = absurd (false≢true p)
-add-mono f (fin w k g) (inf s) y r p q h = absurd (false≢true p)
-add-mono f (fin w k g) (fin s m e) nan r p q h = absurd (false≢true q)
-add-mono f (fin w k g) (fin s m e) (inf t) r p q h = absurd (false≢true q)
-add-mono f (fin w k g) (fin s m e) (fin t n d) r p q h =
-    sums f s (m * up e) t (n * up d) w (k * up g) (down e) (down d) (down g) (down-pos e) (down-pos d) (down-pos g) (of-le s t _ _ h)
+sum-turned : (f : Format) (s : Bool) (a : ℕ) (t : Bool) (b c : ℕ) → sum f s a t b c ≡ sum f t b s a c
+unfolding sum
+sum-turned f true a true b c = ap (λ (k : ℕ). round f true k c) (add-comm a b)
+sum-turned f false a false b c = ap (λ (k : ℕ). round f false k c) (add-comm a b)
+sum-turned f true a false b c = sym (opposed f b a c)
+sum-turned f false a true b c = opposed f a b c
 
 neg-finite : (x : Float) → isFinite x ≡ true → isFinite (neg x) ≡ true
 unfolding isFinite neg
@@ -265,9 +258,20 @@ neg-finite nan h = h
 neg-finite (inf s) h = h
 neg-finite (fin s m e) h = h
 
+sub-turned : (f : Format) (z x : Float) → isFinite z ≡ true → isFinite x ≡ true → sub f z x ≡ sub f (neg x) (neg z)
+unfolding sub add neg isFinite
+sub-turned f nan x p q = absurd (false≢true p)
+sub-turned f (inf w) x p q = absurd (false≢true p)
+sub-turned f (fin w k g) nan p q = absurd (false≢true q)
+sub-turned f (fin w k g) (inf s) p q = absurd (false≢true q)
+sub-turned f (fin w k g) (fin s m e) p q =
+    sum-turned f w (k * up g * down e) (not s) (m * up e * down g) (down g * down e)
+    ∙ ap (λ (t : Bool). sum f (not s) (m * up e * down g) t (k * up g * down e) (down g * down e)) (sym (Bool·not-not w))
+    ∙ ap (sum f (not s) (m * up e * down g) (not (not w)) (k * up g * down e)) (mul-comm (down g) (down e))
+
 sub-anti : (f : Format) (z x y : Float) → isFinite z ≡ true → isFinite x ≡ true → isFinite y ≡ true → T (le x y) → T (le (sub f z y) (sub f z x))
-unfolding sub
-sub-anti f z x y r p q h = add-mono f z (neg y) (neg x) r (neg-finite y q) (neg-finite x p) (neg-le x y h)
+sub-anti f z x y r p q h =
+    rw (sub-turned f z y r q, sub-turned f z x r p) (sub-mono f (neg y) (neg x) (neg z) (neg-finite z r) (neg-le x y h))
 
 -- ---- a whole number
 pub num-mono : (a b : ℕ) → a ≤ b → T (le (F32.num a) (F32.num b))
