@@ -13,6 +13,7 @@ use lib.Ieee.Fits.{and-l, and-r}
 use Rattle.numbers.specs.F32.{over, two, sixteen, eighty}
 use Rattle.numbers.specs.F32 as F32
 use Rattle.numbers.specs.Scalar.{powi2Of, isFinite}
+use Rattle.numbers.specs.Table.{Table}
 use Rattle.numbers.specs.Exp.{byTable, halvedOf, expOf}
 use Rattle.numbers.proofs.WithinLaws.{Within, wider, at-least, quotient}
 
@@ -22,29 +23,29 @@ use Rattle.numbers.proofs.WithinLaws.{Within, wider, at-least, quotient
 pub some-left : (left : ℕ) (below : Bool) → (ltb 0 left && below) ≡ true → 0 < left
 some-left left below h = ltb→lt 0 left (and-l (ltb 0 left) below (subst T (sym h) tt))
 
-pub halves : (left : ℕ) (x e : Float) → (ltb 0 left && lt x (neg sixteen)) ≡ true → e ≡ halvedOf (left - 1) (over x two)
-    → powi2Of e ≡ halvedOf left x
+pub halves : (table : Table) (left : ℕ) (x e : Float) → (ltb 0 left && lt x (neg sixteen)) ≡ true → e ≡ halvedOf table (left - 1) (over x two)
+    → powi2Of e ≡ halvedOf table left x
 unfolding halvedOf
-halves zero x e h is = absurd (false≢true h)
-halves (suc left) x e h is =
+halves table zero x e h is = absurd (false≢true h)
+halves table (suc left) x e h is =
     let below = is-true (lt x (neg sixteen)) (and-r (ltb 0 (suc left)) (lt x (neg sixteen)) (subst T (sym h) tt)) in
     rw (is, sub-one (suc left), below)
 
-pub rests : (left : ℕ) (x : Float) → (ltb 0 left && lt x (neg sixteen)) ≡ false → byTable x ≡ halvedOf left x
+pub rests : (table : Table) (left : ℕ) (x : Float) → (ltb 0 left && lt x (neg sixteen)) ≡ false → byTable table x ≡ halvedOf table left x
 unfolding halvedOf
-rests zero x h = refl
-rests (suc left) x h = rw (sym (ap (λ (t : Bool). t && lt x (neg sixteen)) (lt-ltb 0 (suc left) (zero-lt-suc left))) ∙ h)
+rests table zero x h = refl
+rests table (suc left) x h = rw (sym (ap (λ (t : Bool). t && lt x (neg sixteen)) (lt-ltb 0 (suc left) (zero-lt-suc left))) ∙ h)
 
 -- ---- the definition's
 
-pub goes-on : (left : ℕ) (x : Float) → lt x (neg sixteen) ≡ true → halvedOf (suc left) x ≡ powi2Of (halvedOf left (over x two))
+pub goes-on : (table : Table) (left : ℕ) (x : Float) → lt x (neg sixteen) ≡ true → halvedOf table (suc left) x ≡ powi2Of (halvedOf table left (over x two))
 unfolding halvedOf
-goes-on left x h = rw h
+goes-on table left x h = rw h
 
-pub stops : (left : ℕ) (x : Float) → lt x (neg sixteen) ≡ false → halvedOf left x ≡ byTable x
+pub stops : (table : Table) (left : ℕ) (x : Float) → lt x (neg sixteen) ≡ false → halvedOf table left x ≡ byTable table x
 unfolding halvedOf
-stops zero x h = refl
-stops (suc left) x h = rw h
+stops table zero x h = refl
+stops table (suc left) x h = rw h
 
 -- x from -5 × 2^j to 0: -10, -20, -40, -80
 abbrev pub From : ℕ → Float → Type 0
@@ -60,13 +61,13 @@ half-from j h x w =
     wider (over (fin true 5 (pos (suc j))) two) (over F32.zero two) (fin true 5 (pos j)) F32.zero (over x two) h tt
     (quotient (fin true 5 (pos (suc j))) F32.zero x 0 (pos 1) (record { low = refl; high = refl }) w)
 
-pub below-80 : (x : Float) → lt x (neg eighty) ≡ true → expOf x ≡ F32.zero
+pub below-80 : (table : Table) (x : Float) → lt x (neg eighty) ≡ true → expOf table x ≡ F32.zero
 unfolding expOf
-below-80 x h = rw h
+below-80 table x h = rw h
 
-pub from-80 : (x : Float) → lt x (neg eighty) ≡ false → expOf x ≡ halvedOf 3 x
+pub from-80 : (table : Table) (x : Float) → lt x (neg eighty) ≡ false → expOf table x ≡ halvedOf table 3 x
 unfolding expOf
-from-80 x h = rw h
+from-80 table x h = rw h
 
 -- x from -80 to 0
 pub reached : (x : Float) → T (le x F32.zero) → lt x (neg eighty) ≡ false → From 4 x

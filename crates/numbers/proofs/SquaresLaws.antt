@@ -8,6 +8,7 @@ use lib.Ieee.{Float, fin, neg, div, ofBits, lt, le, eq}
 use Rattle.numbers.specs.F32.{over, two, sixteen, eighty}
 use Rattle.numbers.specs.F32 as F32
 use Rattle.numbers.specs.Scalar.{powi2Of}
+use Rattle.numbers.specs.Table.{Table}
 use Rattle.numbers.specs.Exp.{byTable, halvedOf, expOf, IsExp, OneExp}
 use Rattle.numbers.proofs.WithinLaws.{le-of-lt, le-trans, at-least, not-below}
 use Rattle.numbers.proofs.HalvedLaws.{goes-on, stops, From, IsHalf, half-from, below-80, from-80, reached}
@@ -25,41 +26,30 @@ from-80-on j h x w = not-below (neg eighty) x (le-trans (neg eighty) (fin true 5
 
 -- ---- what squares below -16 and goes by the table from there on is the definition's, as far as its halvings reach
 
-module _ (e : ℕ → Float → Float)
+module _ (table : Table) (e : ℕ → Float → Float)
     (squares : (i : ℕ) (x : Float) → lt x (neg eighty) ≡ false → lt x (neg sixteen) ≡ true → e (suc i) x ≡ powi2Of (e i (over x two)))
-    (table : (i : ℕ) (x : Float) → lt x (neg sixteen) ≡ false → e i x ≡ byTable x) where
-  agrees-10 : (x : Float) → From 1 x → e 0 x ≡ halvedOf 0 x
-  agrees-10 x w = table 0 x (from-10-on x w) ∙ sym (stops 0 x (from-10-on x w))
+    (above : (i : ℕ) (x : Float) → lt x (neg sixteen) ≡ false → e i x ≡ byTable table x) where
+  agrees-10 : (x : Float) → From 1 x → e 0 x ≡ halvedOf table 0 x
+  agrees-10 x w = above 0 x (from-10-on x w) ∙ sym (stops table 0 x (from-10-on x w))
 
   module _ (left j : ℕ) (is-half : IsHalf j) (near : T (le (neg eighty) (fin true 5 (pos (suc j)))))
-      (fewer : (x : Float) → From j x → e left x ≡ halvedOf left x) where
-    agrees-more : (x : Float) → From (suc j) x → (t : Bool) → lt x (neg sixteen) ≡ t → e (suc left) x ≡ halvedOf (suc left) x
+      (fewer : (x : Float) → From j x → e left x ≡ halvedOf table left x) where
+    agrees-more : (x : Float) → From (suc j) x → (t : Bool) → lt x (neg sixteen) ≡ t → e (suc left) x ≡ halvedOf table (suc left) x
     agrees-more x w true h =
-        squares left x (from-80-on (suc j) near x w) h ∙ ap powi2Of (fewer (over x two) (half-from j is-half x w)) ∙ sym (goes-on left x h)
-    agrees-more x w false h = table (suc left) x h ∙ sym (stops (suc left) x h)
+        squares left x (from-80-on (suc j) near x w) h ∙ ap powi2Of (fewer (over x two) (half-from j is-half x w)) ∙ sym (goes-on table left x h)
+    agrees-more x w false h = above (suc left) x h ∙ sym (stops table (suc left) x h)
 
-  agrees-20 : (x : Float) → From 2 x → e 1 x ≡ halvedOf 1 x
+  agrees-20 : (x : Float) → From 2 x → e 1 x ≡ halvedOf table 1 x
   unfolding neg div ofBits le lt eq
   agrees-20 x w = agrees-more 0 1 tt tt agrees-10 x w (lt x (neg sixteen)) refl
 
-  agrees-40 : (x : Float) → From 3 x → e 2 x ≡ halvedOf 2 x
+  agrees-40 : (x : Float) → From 3 x → e 2 x ≡ halvedOf table 2 x
   unfolding neg div ofBits le lt eq
   agrees-40 x w = agrees-more 1 2 tt tt agrees-20 x w (lt x (neg sixteen)) refl
-
--- ---- exp is so: from -40 on a third halving changes nothing
-
-enough : (x : Float) → From 3 x → halvedOf 3 x ≡ halvedOf 2 x
-enough = agrees-40 (λ i. halvedOf (suc i)) (λ i x h. goes-on (suc i) x) (λ i. stops (suc i))
 
 half-from-40 : (x : Float) → lt x (neg eighty) ≡ false → lt x (neg sixteen) ≡ true → From 3 (over x two)
 unfolding div ofBits le lt eq
 half-from-40 x h k = half-from 3 tt x (reached x (low x k) h)
-
-exp-squares : (x : Float) → lt x (neg eighty) ≡ false → lt x (neg sixteen) ≡ true → expOf x ≡ powi2Of (expOf (over x two))
-unfolding neg ofBits le lt eq
-exp-squares x h k =
-    let w = half-from-40 x h k in
-    from-80 x h ∙ goes-on 2 x k ∙ ap powi2Of (sym (from-80 (over x two) (from-80-on 3 tt (over x two) w) ∙ enough (over x two) w))
 
 sixteen-eighty : T (le (neg sixteen) (neg eighty)) → ⊥
 unfolding neg ofBits le lt eq
@@ -75,22 +65,34 @@ above-80 x h = go (lt x (neg eighty)) refl
         absurd (sixteen-eighty (le-trans (neg sixteen) x (neg eighty) (at-least x true 1 (pos 4) (le-trans x (neg eighty) F32.zero l tt) h) l))
     go false k = refl
 
-exp-is : IsExp expOf
-exp-is = record {
-  squares = exp-squares;
-  below = below-80;
-  table = λ x h. from-80 x (above-80 x h) ∙ stops 3 x h;
-}
+-- ---- exp is so: from -40 on a third halving changes nothing
 
--- ---- and nothing else is
+module _ (table : Table) where
+  enough : (x : Float) → From 3 x → halvedOf table 3 x ≡ halvedOf table 2 x
+  enough = agrees-40 table (λ i. halvedOf table (suc i)) (λ i x h. goes-on table (suc i) x) (λ i. stops table (suc i))
 
-only : (e : Float → Float) → IsExp e → (x : Float) (s t : Bool) → lt x (neg eighty) ≡ s → lt x (neg sixteen) ≡ t → e x ≡ expOf x
-only e is x true t h k = is .below x h ∙ sym (below-80 x h)
-only e is x false true h k =
-    is .squares x h k
-    ∙ ap powi2Of (agrees-40 (λ i. e) (λ i. is .squares) (λ i. is .table) (over x two) (half-from-40 x h k))
-    ∙ sym (from-80 x h ∙ goes-on 2 x k)
-only e is x false false h k = is .table x k ∙ sym (exp-is .table x k)
+  exp-squares : (x : Float) → lt x (neg eighty) ≡ false → lt x (neg sixteen) ≡ true → expOf table x ≡ powi2Of (expOf table (over x two))
+  unfolding neg ofBits le lt eq
+  exp-squares x h k =
+      let w = half-from-40 x h k in
+      from-80 table x h ∙ goes-on table 2 x k ∙ ap powi2Of (sym (from-80 table (over x two) (from-80-on 3 tt (over x two) w) ∙ enough (over x two) w))
+
+  exp-is : IsExp table (expOf table)
+  exp-is = record {
+    squares = exp-squares;
+    below = below-80 table;
+    above = λ x h. from-80 table x (above-80 x h) ∙ stops table 3 x h;
+  }
+
+  -- ---- and nothing else is
+
+  only : (e : Float → Float) → IsExp table e → (x : Float) (s t : Bool) → lt x (neg eighty) ≡ s → lt x (neg sixteen) ≡ t → e x ≡ expOf table x
+  only e is x true t h k = is .below x h ∙ sym (below-80 table x h)
+  only e is x false true h k =
+      is .squares x h k
+      ∙ ap powi2Of (agrees-40 table (λ i. e) (λ i. is .squares) (λ i. is .above) (over x two) (half-from-40 x h k))
+      ∙ sym (from-80 table x h ∙ goes-on table 2 x k)
+  only e is x false false h k = is .above x k ∙ sym (exp-is .above x k)
 
 pub one-exp : OneExp
-one-exp = (exp-is, λ e is x. only e is x (lt x (neg eighty)) (lt x (neg sixteen)) refl refl)
+one-exp table = (exp-is table, λ e is x. only table e is x (lt x (neg eighty)) (lt x (neg sixteen)) refl refl)
