@@ -7,13 +7,14 @@ use borrow.Author.Tests.{eqb-true}
 use lib.Dec.{eqb}
 use lib.Ieee.{Float}
 use lib.ListN.{length}
+use Rattle.numbers.specs.Table.{Table}
 use Rattle.numbers.specs.Scalar.{isFinite}
 use Rattle.area.specs.Pair.{num}
 use Rattle.area.specs.Checks.{frameRefusal, stateRefusal, refusalOf, isPairFinite, areTargetsFinite, arePressesFinite, isRectFinite, isStateFinite}
 use Rattle.area.specs.End.{isPressBlocked}
 use Rattle.area.specs.PutOut.{nextState, outcomeOf, answerOf}
 use Rattle.area.specs.Outcome.{refusedOf, isOutcomeFinite, isAnswerFinite}
-use Rattle.area.specs.Call.{runOf, callOf}
+use Rattle.area.specs.Call.{runOf, callUnder}
 use Rattle.area.specs.Steps.{begunAt, endedAt, outputsAt, checkAt, stepAt, isAccepted}
 use Rattle.area.specs.Moved.{endedOn, extentOn}
 use Rattle.area.specs.declared.state.State.{State}
@@ -68,25 +69,25 @@ unfolding refusalOf frameRefusal
 whole-of S bytes r e a = eqb-true (length bytes) 416 (whole-by (eqb (length bytes) 416) _ (stateRefusal S) (ap (λ (k : ℕ). eqb k 0) (sym e) ∙ a))
 
 -- "answers and state equal document 01's steps"
-pub step-is-call : (S : State) (bytes : List ℕ) → stepAt S bytes ≡ callOf S bytes
-unfolding stepAt checkAt outputsAt endedAt begunAt callOf runOf
-step-is-call S bytes =
-    same-by S (outputsAt S bytes) (refusalOf bytes S) (eqb (refusalOf bytes S) 0) (isPressBlocked (endedAt S bytes))
-    (isAnswerFinite (outputsAt S bytes)) refl
+pub step-is-call : (table : Table) (S : State) (bytes : List ℕ) → stepAt table S bytes ≡ callUnder table S bytes
+unfolding stepAt checkAt outputsAt endedAt begunAt callUnder runOf
+step-is-call table S bytes =
+    same-by S (outputsAt table S bytes) (refusalOf bytes S) (eqb (refusalOf bytes S) 0) (isPressBlocked (endedAt table S bytes))
+    (isAnswerFinite (outputsAt table S bytes)) refl
 
 -- "A refusal returns the state as given"
-outputs-accepted : (S : State) (bytes : List ℕ) → isAccepted (outputsAt S bytes) ≡ true
+outputs-accepted : (table : Table) (S : State) (bytes : List ℕ) → isAccepted (outputsAt table S bytes) ≡ true
 unfolding outputsAt answerOf outcomeOf
-outputs-accepted S bytes = refl
+outputs-accepted table S bytes = refl
 
-call-refused : (S : State) (bytes : List ℕ) → isAccepted (callOf S bytes) ≡ false → callOf S bytes .state ≡ S
-unfolding outputsAt endedAt begunAt callOf runOf
-call-refused S bytes a =
-    refused-by S (outputsAt S bytes) (refusalOf bytes S) (eqb (refusalOf bytes S) 0) (isPressBlocked (endedAt S bytes))
-    (isAnswerFinite (outputsAt S bytes)) (outputs-accepted S bytes) a
+call-refused : (table : Table) (S : State) (bytes : List ℕ) → isAccepted (callUnder table S bytes) ≡ false → callUnder table S bytes .state ≡ S
+unfolding outputsAt endedAt begunAt callUnder runOf
+call-refused table S bytes a =
+    refused-by S (outputsAt table S bytes) (refusalOf bytes S) (eqb (refusalOf bytes S) 0) (isPressBlocked (endedAt table S bytes))
+    (isAnswerFinite (outputsAt table S bytes)) (outputs-accepted table S bytes) a
 
-pub refusal-keeps : (S : State) (bytes : List ℕ) → isAccepted (stepAt S bytes) ≡ false → stepAt S bytes .state ≡ S
-refusal-keeps S bytes a = rw step-is-call (call-refused S bytes (rw step-is-call at a))
+pub refusal-keeps : (table : Table) (S : State) (bytes : List ℕ) → isAccepted (stepAt table S bytes) ≡ false → stepAt table S bytes .state ≡ S
+refusal-keeps table S bytes a = rw step-is-call (call-refused table S bytes (rw step-is-call at a))
 
 -- ---- an accepted frame
 
@@ -95,11 +96,11 @@ pub record IsFiniteOn (e : Ended) (d : ℕ) : Type 0 where
   pub offset : isFinite (endedOn e d .offset) ≡ true
   pub maximum : isFinite (extentOn e d .«max_offset») ≡ true
 
-pub record Accepted (S : State) (bytes : List ℕ) : Type 0 where
-  pub state : stepAt S bytes .state ≡ nextState (endedAt S bytes)
+pub record Accepted (table : Table) (S : State) (bytes : List ℕ) : Type 0 where
+  pub state : stepAt table S bytes .state ≡ nextState (endedAt table S bytes)
   pub unrefused : refusalOf bytes S ≡ 0
-  pub x : IsFiniteOn (endedAt S bytes) 0
-  pub y : IsFiniteOn (endedAt S bytes) 1
+  pub x : IsFiniteOn (endedAt table S bytes) 0
+  pub y : IsFiniteOn (endedAt table S bytes) 1
 
 first-two : (a b c d e f : Bool) → (a && b && c && d && e && f) ≡ true → (a ≡ true) × (b ≡ true)
 first-two true true c d e f h = (refl, refl)
@@ -124,27 +125,28 @@ ended-finite e h =
     let maximum = pair-finite (nextState e .«max_offset») (both .1) in
     (record { offset = offset .0; maximum = maximum .0 }, record { offset = offset .1; maximum = maximum .1 })
 
-outputs-finite : (S : State) (bytes : List ℕ) → isAnswerFinite (outputsAt S bytes) ≡ true → isStateFinite (nextState (endedAt S bytes)) ≡ true
+outputs-finite : (table : Table) (S : State) (bytes : List ℕ) → isAnswerFinite (outputsAt table S bytes) ≡ true
+    → isStateFinite (nextState (endedAt table S bytes)) ≡ true
 unfolding isAnswerFinite outputsAt answerOf
-outputs-finite S bytes h = and-left (isStateFinite (outputsAt S bytes .state)) (isOutcomeFinite (outputsAt S bytes .outcome)) h
+outputs-finite table S bytes h = and-left (isStateFinite (outputsAt table S bytes .state)) (isOutcomeFinite (outputsAt table S bytes .outcome)) h
 
-outputs-state : (S : State) (bytes : List ℕ) → outputsAt S bytes .state ≡ nextState (endedAt S bytes)
+outputs-state : (table : Table) (S : State) (bytes : List ℕ) → outputsAt table S bytes .state ≡ nextState (endedAt table S bytes)
 unfolding outputsAt answerOf
-outputs-state S bytes = refl
+outputs-state table S bytes = refl
 
-call-accepted : (S : State) (bytes : List ℕ) → isAccepted (callOf S bytes) ≡ true
-    → (callOf S bytes ≡ outputsAt S bytes) × (isAnswerFinite (outputsAt S bytes) ≡ true) × (refusalOf bytes S ≡ 0)
-unfolding outputsAt endedAt begunAt callOf runOf
-call-accepted S bytes a =
-    accepted-by S (outputsAt S bytes) (refusalOf bytes S) (eqb (refusalOf bytes S) 0) (isPressBlocked (endedAt S bytes))
-    (isAnswerFinite (outputsAt S bytes)) refl a
+call-accepted : (table : Table) (S : State) (bytes : List ℕ) → isAccepted (callUnder table S bytes) ≡ true
+    → (callUnder table S bytes ≡ outputsAt table S bytes) × (isAnswerFinite (outputsAt table S bytes) ≡ true) × (refusalOf bytes S ≡ 0)
+unfolding outputsAt endedAt begunAt callUnder runOf
+call-accepted table S bytes a =
+    accepted-by S (outputsAt table S bytes) (refusalOf bytes S) (eqb (refusalOf bytes S) 0) (isPressBlocked (endedAt table S bytes))
+    (isAnswerFinite (outputsAt table S bytes)) refl a
 
-pub accepted : (S : State) (bytes : List ℕ) → isAccepted (stepAt S bytes) ≡ true → Accepted S bytes
-accepted S bytes a =
-    let c = call-accepted S bytes (rw step-is-call at a) in
-    let n = ended-finite (endedAt S bytes) (outputs-finite S bytes (c .1)) in
+pub accepted : (table : Table) (S : State) (bytes : List ℕ) → isAccepted (stepAt table S bytes) ≡ true → Accepted table S bytes
+accepted table S bytes a =
+    let c = call-accepted table S bytes (rw step-is-call at a) in
+    let n = ended-finite (endedAt table S bytes) (outputs-finite table S bytes (c .1)) in
     record {
-      state = ap (λ (r : Answer). r .state) (step-is-call S bytes ∙ c .0) ∙ outputs-state S bytes;
+      state = ap (λ (r : Answer). r .state) (step-is-call table S bytes ∙ c .0) ∙ outputs-state table S bytes;
       unrefused = c .2;
       x = n .0;
       y = n .1;

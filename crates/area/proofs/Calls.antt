@@ -1,4 +1,4 @@
--- The premises of `Run`'s constructors are the contracts of the two frame calls, as `rattle check` makes them from the source: a contract that says
+-- The premises of `Run`'s constructors are the contracts of the four frame calls, as `rattle check` makes them from the source: a contract that says
 -- anything else is refused here, and so is one that asks anything of its caller.
 -- Assumes nothing.
 use mathlib.Core.Path.{_≡_, refl}
@@ -13,16 +13,19 @@ use ghost.Atoms.{Atoms}
 use denote.Ref.{now}
 use denote.Triple.Entry.{Args}
 use denote.Triple.Clauses.{AtExit}
+use Rattle.numbers.specs.Table.{tableAt, tableOf}
 use Rattle.area.specs.declared.outcome.Answer.{Answer}
 use Rattle.area.specs.declared.outcome.Outcome.{Outcome}
 use Rattle.area.specs.Lists.{FrameSays, LentSays}
 use Rattle.area.proofs.call.frame_call as value
+use Rattle.area.proofs.call.frame_by as value-by
 use Rattle.area.proofs.lent.frame_lent as lent
+use Rattle.area.proofs.lent.frame_lent_by as lent-by
 
 module _ {M : Type 1} (𝓤 : URA M) (H : Heap 𝓤) (A : Atoms 𝓤) (mem : Memory → SProp 𝓤) (run : Routine → Fun 𝓤) where
   -- `frame_call`, on the state a .0 and the slice a .1 .0
   pub value-says : (κs : Lfts 1) (a : Args value.signature κs) (r : Answer) (e : AtExit value.ended κs)
-      → value.clauses 𝓤 H A mem run κs a .ensures tt r e ≡ fact 𝓤 (FrameSays (a .0) (now (a .1 .0)) r)
+      → value.clauses 𝓤 H A mem run κs a .ensures tt r e ≡ fact 𝓤 (FrameSays tableAt (a .0) (now (a .1 .0)) r)
   value-says κs a r e = refl
 
   pub value-asks : (κs : Lfts 1) (a : Args value.signature κs) → value.clauses 𝓤 H A mem run κs a .requires tt ≡ emp 𝓤
@@ -30,8 +33,25 @@ module _ {M : Type 1} (𝓤 : URA M) (H : Heap 𝓤) (A : Atoms 𝓤) (mem : Mem
 
   -- `frame_lent`, on the reference a .0 and the slice a .1 .0; the reference at exit is e .0
   pub lent-says : (κs : Lfts 2) (a : Args lent.signature κs) (r : Outcome) (e : AtExit lent.ended κs)
-      → lent.clauses 𝓤 H A mem run κs a .ensures tt r e ≡ fact 𝓤 (LentSays (now (a .0)) (now (a .1 .0)) r (now (e .0)))
+      → lent.clauses 𝓤 H A mem run κs a .ensures tt r e ≡ fact 𝓤 (LentSays tableAt (now (a .0)) (now (a .1 .0)) r (now (e .0)))
   lent-says κs a r e = refl
 
   pub lent-asks : (κs : Lfts 2) (a : Args lent.signature κs) → lent.clauses 𝓤 H A mem run κs a .requires tt ≡ emp 𝓤
   lent-asks κs a = refl
+
+  -- `frame_by`, on the state a .0, the slice a .1 .0 and the table a .1 .1 .0
+  pub value-by-says : (κs : Lfts 2) (a : Args value-by.signature κs) (r : Answer) (e : AtExit value-by.ended κs)
+      → value-by.clauses 𝓤 H A mem run κs a .ensures tt r e ≡ fact 𝓤 (FrameSays (tableOf (now (a .1 .1 .0))) (a .0) (now (a .1 .0)) r)
+  value-by-says κs a r e = refl
+
+  pub value-by-asks : (κs : Lfts 2) (a : Args value-by.signature κs) → value-by.clauses 𝓤 H A mem run κs a .requires tt ≡ emp 𝓤
+  value-by-asks κs a = refl
+
+  -- `frame_lent_by`, on the reference a .0, the slice a .1 .0 and the table a .1 .1 .0; the reference at exit is e .0
+  pub lent-by-says : (κs : Lfts 3) (a : Args lent-by.signature κs) (r : Outcome) (e : AtExit lent-by.ended κs)
+      → lent-by.clauses 𝓤 H A mem run κs a .ensures tt r e
+      ≡ fact 𝓤 (LentSays (tableOf (now (a .1 .1 .0))) (now (a .0)) (now (a .1 .0)) r (now (e .0)))
+  lent-by-says κs a r e = refl
+
+  pub lent-by-asks : (κs : Lfts 3) (a : Args lent-by.signature κs) → lent-by.clauses 𝓤 H A mem run κs a .requires tt ≡ emp 𝓤
+  lent-by-asks κs a = refl

@@ -8,6 +8,7 @@ use Prim.Native.Nat.{ℕ, _+_}
 use borrow.Author.Tests.{eq-eqb}
 use lib.ListN.{getD}
 use lib.Ieee.{Float, lt, eq}
+use Rattle.numbers.specs.Table.{Table}
 use Rattle.numbers.specs.F32.{zero}
 use Rattle.numbers.specs.Scalar.{maxOf, isFinite}
 use Rattle.numbers.specs.declared.range.Rangef.{Rangef}
@@ -173,21 +174,21 @@ ended-at-end f d e before space x wheel b n st k c a h =
     (turned-stuck f d before space (x .this) wheel (adjusted .motion) (b .«rubber_banding») (adjustment-stuck f d space (b .motion) k) c) a h
 
 -- and through `begin` before it
-unmoved-at-end : (f : Frame) (s : State) (d e : ℕ) (space : AxisSpace) (x : Extents) (wheel : WheelHeard) (p : Prepared)
+unmoved-at-end : (table : Table) (f : Frame) (s : State) (d e : ℕ) (space : AxisSpace) (x : Extents) (wheel : WheelHeard) (p : Prepared)
     → (innerSize : Float) (hold : Bool)
     → isFinite (x .this .«max_offset») ≡ true → flag (f .settings .«stick_to_end») d ≡ true → flag (s .«scroll_stuck_to_end») d ≡ true
-    → isMovedIn f p d (axisEndedOf f d e (beforeOf s d) space x wheel (axisBegunOf f s d innerSize (p .«has_background_drag») hold)) ≡ false
-    → IsEndedAtEnd (x .this .«max_offset») (axisEndedOf f d e (beforeOf s d) space x wheel (axisBegunOf f s d innerSize (p .«has_background_drag») hold))
+    → isMovedIn f p d (axisEndedOf f d e (beforeOf s d) space x wheel (axisBegunOf table f s d innerSize (p .«has_background_drag») hold)) ≡ false
+    → IsEndedAtEnd (x .this .«max_offset») (axisEndedOf f d e (beforeOf s d) space x wheel (axisBegunOf table f s d innerSize (p .«has_background_drag») hold))
 unfolding isMovedIn isDragHeeded
-unmoved-at-end f s d e space x wheel p innerSize hold n st k h =
-    let b = axisBegunOf f s d innerSize (p .«has_background_drag») hold in
+unmoved-at-end table f s d e space x wheel p innerSize hold n st k h =
+    let b = axisBegunOf table f s d innerSize (p .«has_background_drag») hold in
     let z = axisEndedOf f d e (beforeOf s d) space x wheel b in
     let press = isPressHeeded f d (z .«show_scroll») in
     let adjusted = z .«had_explicit_scroll_adjustment» in
     let not-taken = not-right (isDragHeeded f p d) (z .consumed || (adjusted || press)) h in
     let not-adjusted = not-right (z .consumed) (adjusted || press) not-taken in
     ended-at-end f d e (beforeOf s d) space x wheel b n st
-    (begun-stuck f s d innerSize (p .«has_background_drag») hold (not-left (isDragHeeded f p d) (z .consumed || (adjusted || press)) h) k)
+    (begun-stuck table f s d innerSize (p .«has_background_drag») hold (not-left (isDragHeeded f p d) (z .consumed || (adjusted || press)) h) k)
     (not-left (z .consumed) (adjusted || press) not-taken)
     (not-left adjusted press not-adjusted)
     (not-right adjusted press not-adjusted)
@@ -197,36 +198,37 @@ unmoved-at-end f s d e space x wheel p innerSize hold n st k h =
 -- on axis d: it sticks, the axis is stuck and finite, and not moved
 abbrev Leads : ℕ → Type 0
 Leads d =
-    (f : Frame) (s : State)
-    → isFinite (extentOn (endOf f s (beginOf f s)) d .«max_offset») ≡ true → flag (f .settings .«stick_to_end») d ≡ true
+    (table : Table) (f : Frame) (s : State)
+    → isFinite (extentOn (endOf f s (beginOf table f s)) d .«max_offset») ≡ true → flag (f .settings .«stick_to_end») d ≡ true
     → flag (s .«scroll_stuck_to_end») d ≡ true
-    → isMovedIn f (beginOf f s) d (endedOn (endOf f s (beginOf f s)) d) ≡ false
-    → IsEndedAtEnd (extentOn (endOf f s (beginOf f s)) d .«max_offset») (endedOn (endOf f s (beginOf f s)) d)
+    → isMovedIn f (beginOf table f s) d (endedOn (endOf f s (beginOf table f s)) d) ≡ false
+    → IsEndedAtEnd (extentOn (endOf f s (beginOf table f s)) d .«max_offset») (endedOn (endOf f s (beginOf table f s)) d)
 
 leads-x : Leads 0
 unfolding endOf beginOf preparedOf
-leads-x f s n st k h = unmoved-at-end f s 0 1 _ _ _ (beginOf f s) _ _ n st k h
+leads-x table f s n st k h = unmoved-at-end table f s 0 1 _ _ _ (beginOf table f s) _ _ n st k h
 
 leads-y : Leads 1
 unfolding endOf beginOf preparedOf
-leads-y f s n st k h = unmoved-at-end f s 1 0 _ _ _ (beginOf f s) _ _ n st k h
+leads-y table f s n st k h = unmoved-at-end table f s 1 0 _ _ _ (beginOf table f s) _ _ n st k h
 
 -- a stuck axis, on which the frame sticks and which nothing moves, shows the list's end, and stays stuck
-abbrev pub StaysOnEnd : (State → List ℕ → ℕ → Bool) → ℕ → Type 0
+abbrev pub StaysOnEnd : (Table → State → List ℕ → ℕ → Bool) → ℕ → Type 0
 StaysOnEnd moved d =
-    (S : State) (bytes : List ℕ) → isAccepted (stepAt S bytes) ≡ true → wordNo bytes (At.stickToEnd + d) ≡ 1 → moved S bytes d ≡ false
-    → flag (S .«scroll_stuck_to_end») d ≡ true → IsOnEnd S bytes (stepAt S bytes .state) d × (flag (stepAt S bytes .state .«scroll_stuck_to_end») d ≡ true)
+    (table : Table) (S : State) (bytes : List ℕ) → isAccepted (stepAt table S bytes) ≡ true → wordNo bytes (At.stickToEnd + d) ≡ 1
+    → moved table S bytes d ≡ false → flag (S .«scroll_stuck_to_end») d ≡ true
+    → IsOnEnd table S bytes (stepAt table S bytes .state) d × (flag (stepAt table S bytes .state .«scroll_stuck_to_end») d ≡ true)
 
 pub stays-x : StaysOnEnd isMoved 0
 unfolding isMoved maximumOffset clampedOffset nextState endedAt begunAt frameOf settingsOf flagsNo flagNo
-stays-x S bytes a st h k =
-    let t = accepted S bytes a in
-    let after : State → Type 0 = λ s. (eq (num (clampedOffset s) 0) (listEnd S bytes 0) ≡ true) × (flag (s .«scroll_stuck_to_end») 0 ≡ true) in
-    subst after (sym (t .state)) (leads-x (frameOf bytes) S (t .x .maximum) (eq-eqb _ 1 st) k h)
+stays-x table S bytes a st h k =
+    let t = accepted table S bytes a in
+    let after : State → Type 0 = λ s. (eq (num (clampedOffset s) 0) (listEnd table S bytes 0) ≡ true) × (flag (s .«scroll_stuck_to_end») 0 ≡ true) in
+    subst after (sym (t .state)) (leads-x table (frameOf bytes) S (t .x .maximum) (eq-eqb _ 1 st) k h)
 
 pub stays-y : StaysOnEnd isMoved 1
 unfolding isMoved maximumOffset clampedOffset nextState endedAt begunAt frameOf settingsOf flagsNo flagNo
-stays-y S bytes a st h k =
-    let t = accepted S bytes a in
-    let after : State → Type 0 = λ s. (eq (num (clampedOffset s) 1) (listEnd S bytes 1) ≡ true) × (flag (s .«scroll_stuck_to_end») 1 ≡ true) in
-    subst after (sym (t .state)) (leads-y (frameOf bytes) S (t .y .maximum) (eq-eqb _ 1 st) k h)
+stays-y table S bytes a st h k =
+    let t = accepted table S bytes a in
+    let after : State → Type 0 = λ s. (eq (num (clampedOffset s) 1) (listEnd table S bytes 1) ≡ true) × (flag (s .«scroll_stuck_to_end») 1 ≡ true) in
+    subst after (sym (t .state)) (leads-y table (frameOf bytes) S (t .y .maximum) (eq-eqb _ 1 st) k h)

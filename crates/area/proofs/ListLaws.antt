@@ -3,11 +3,12 @@ use mathlib.Core.Path.{_≡_, refl, sym, ap, subst, _∙_}
 use mathlib.Core.Bool.{Bool, true}
 use mathlib.Core.List.{List, [], _∷_, map}
 use Prim.Native.Nat.{ℕ}
+use Rattle.numbers.specs.Table.{Table}
 use Rattle.area.specs.Pair.{flag}
 use Rattle.area.specs.State.{default}
-use Rattle.area.specs.Steps.{stepAt, answersFrom, stateFrom, isAccepted, acceptedFrom}
+use Rattle.area.specs.Steps.{Fed, stepAt, stepFed, answersFrom, stateFrom, isAccepted, acceptedFrom}
 use Rattle.area.specs.Moved.{isMoved, isMovedByWords}
-use Rattle.area.specs.Lists.{Call, byValue, lent, bytesOf, Run, ends, returned, left, afterOf, RangeAlong, EndAlong, DistancesAlong, Whole, AllLists}
+use Rattle.area.specs.Lists.{Call, byValue, lent, fedOf, Run, ends, returned, left, afterOf, RangeAlong, EndAlong, DistancesAlong, Whole, AllLists}
 use Rattle.area.specs.declared.state.State.{State}
 use Rattle.area.specs.declared.outcome.Answer.{Answer}
 use Rattle.area.proofs.TestLaws.{chosen}
@@ -19,55 +20,57 @@ use Rattle.area.proofs.ListingLaws.{listing-shown}
 
 -- ---- "answers and state equal document 01's steps"
 record Same (s : State) (calls : List Call) (answers : List Answer) (t : State) : Type 0 where
-  pub answers-same : answers ≡ answersFrom s (map bytesOf calls)
-  pub state-same : t ≡ stateFrom s (map bytesOf calls)
+  pub answers-same : answers ≡ answersFrom s (map fedOf calls)
+  pub state-same : t ≡ stateFrom s (map fedOf calls)
 
 same : {s : State} {calls : List Call} {answers : List Answer} {t : State} → Run s calls answers t → Same s calls answers t
 same ends = record { answers-same = refl; state-same = refl }
-same (returned {s} {bytes} {r} {calls} {answers} {t} says run) =
-    let is-step = says ∙ sym (step-is-call s bytes) in
+same (returned {table} {s} {bytes} {r} {calls} {answers} {t} says run) =
+    let is-step = says ∙ sym (step-is-call table s bytes) in
     let rest = subst (λ (a : Answer). Same (a .state) calls answers t) is-step (same run) in
     record { answers-same = λ i. is-step i ∷ rest .answers-same i; state-same = rest .state-same }
-same (left {s} {bytes} {o} {u} {calls} {answers} {t} says run) =
-    let is-left = says .leaves ∙ ap (λ (a : Answer). a .state) (sym (step-is-call s bytes)) in
-    let is-told = says .answers ∙ ap (λ (a : Answer). a .outcome) (sym (step-is-call s bytes)) in
+same (left {table} {s} {bytes} {o} {u} {calls} {answers} {t} says run) =
+    let is-left = says .leaves ∙ ap (λ (a : Answer). a .state) (sym (step-is-call table s bytes)) in
+    let is-told = says .answers ∙ ap (λ (a : Answer). a .outcome) (sym (step-is-call table s bytes)) in
     let rest = subst (λ (v : State). Same v calls answers t) is-left (same run) in
     record { answers-same = λ i. record { state = is-left i; outcome = is-told i } ∷ rest .answers-same i; state-same = rest .state-same }
 
 -- each list has a run
-pub run-of : (s : State) (calls : List Call) → Run s calls (answersFrom s (map bytesOf calls)) (stateFrom s (map bytesOf calls))
+pub run-of : (s : State) (calls : List Call) → Run s calls (answersFrom s (map fedOf calls)) (stateFrom s (map fedOf calls))
 run-of s [] = ends
-run-of s (byValue bytes ∷ calls) = returned (step-is-call s bytes) (run-of (stepAt s bytes .state) calls)
-run-of s (lent bytes ∷ calls) =
-    left (record { answers = ap (λ (a : Answer). a .outcome) (step-is-call s bytes); leaves = ap (λ (a : Answer). a .state) (step-is-call s bytes) })
-    (run-of (stepAt s bytes .state) calls)
+run-of s (byValue table bytes ∷ calls) = returned (step-is-call table s bytes) (run-of (stepAt table s bytes .state) calls)
+run-of s (lent table bytes ∷ calls) =
+    let is-call = step-is-call table s bytes in
+    left (record { answers = ap (λ (a : Answer). a .outcome) is-call; leaves = ap (λ (a : Answer). a .state) is-call })
+    (run-of (stepAt table s bytes .state) calls)
 
 -- ---- "the accepted frames alone reach the same state"
-alone : (S : State) (frames : List (List ℕ)) → stateFrom S (acceptedFrom S frames) ≡ stateFrom S frames
+alone : (S : State) (frames : List Fed) → stateFrom S (acceptedFrom S frames) ≡ stateFrom S frames
 alone S [] = refl
-alone S (bytes ∷ rest) =
-    let after = stepAt S bytes .state in
+alone S (fed ∷ rest) =
+    let after = stepFed S fed .state in
     let others = acceptedFrom after rest in
-    chosen (λ (frames : List (List ℕ)). stateFrom S frames ≡ stateFrom after rest) (isAccepted (stepAt S bytes)) (bytes ∷ others) others
+    chosen (λ (frames : List Fed). stateFrom S frames ≡ stateFrom after rest) (isAccepted (stepFed S fed)) (fed ∷ others) others
     (λ h. alone after rest)
-    (λ h. subst (λ (u : State). stateFrom u others ≡ stateFrom after rest) (refusal-keeps S bytes h) (alone after rest))
+    (λ h. subst (λ (u : State). stateFrom u others ≡ stateFrom after rest) (refusal-keeps (fed .table) S (fed .bytes) h) (alone after rest))
 
 -- ---- "with rubber band off the stored offset lies in the range"
-range-along : (S : State) (frames : List (List ℕ)) → RangeAlong S frames (map afterOf (answersFrom S frames))
+range-along : (S : State) (frames : List Fed) → RangeAlong S frames (map afterOf (answersFrom S frames))
 range-along S [] = tt
-range-along S (bytes ∷ rest) = (in-range S bytes, range-along (stepAt S bytes .state) rest)
+range-along S (fed ∷ rest) = (in-range (fed .table) S (fed .bytes), range-along (stepFed S fed .state) rest)
 
 -- ---- "a sticking axis that nobody moves shows the list's end": from a stuck axis on, it stays stuck
-end-along : (moved : State → List ℕ → ℕ → Bool) (d : ℕ) → StaysOnEnd moved d → (S : State) (frames : List (List ℕ))
+end-along : (moved : Table → State → List ℕ → ℕ → Bool) (d : ℕ) → StaysOnEnd moved d → (S : State) (frames : List Fed)
     → flag (S .«scroll_stuck_to_end») d ≡ true
     → EndAlong moved d S frames (map afterOf (answersFrom S frames))
 end-along moved d stays S [] stuck = tt
-end-along moved d stays S (bytes ∷ rest) stuck = (
+end-along moved d stays S (fed ∷ rest) stuck = (
   λ a sticks unmoved.
-      let on-end = stays S bytes a sticks unmoved stuck in
-      (on-end .0, end-along moved d stays (stepAt S bytes .state) rest (on-end .1)),
+      let on-end = stays (fed .table) S (fed .bytes) a sticks unmoved stuck in
+      (on-end .0, end-along moved d stays (stepFed S fed .state) rest (on-end .1)),
   λ a.
-      end-along moved d stays (stepAt S bytes .state) rest (ap (λ (s : State). flag (s .«scroll_stuck_to_end») d) (refusal-keeps S bytes a) ∙ stuck),
+      let kept = refusal-keeps (fed .table) S (fed .bytes) a in
+      end-along moved d stays (stepFed S fed .state) rest (ap (λ (s : State). flag (s .«scroll_stuck_to_end») d) kept ∙ stuck),
 )
 
 -- ---- the claim, of the fresh state
@@ -75,22 +78,22 @@ fresh-stuck : (flag (default .«scroll_stuck_to_end») 0 ≡ true) × (flag (def
 unfolding default
 fresh-stuck = (refl, refl)
 
-both-along : (moved : State → List ℕ → ℕ → Bool) → StaysOnEnd moved 0 → StaysOnEnd moved 1 → (frames : List (List ℕ))
+both-along : (moved : Table → State → List ℕ → ℕ → Bool) → StaysOnEnd moved 0 → StaysOnEnd moved 1 → (frames : List Fed)
     → EndAlong moved 0 default frames (map afterOf (answersFrom default frames))
     × EndAlong moved 1 default frames (map afterOf (answersFrom default frames))
 both-along moved x y frames = (end-along moved 0 x default frames (fresh-stuck .0), end-along moved 1 y default frames (fresh-stuck .1))
 
-distances : (frames : List (List ℕ)) → DistancesAlong default frames (map afterOf (answersFrom default frames))
+distances : (frames : List Fed) → DistancesAlong default frames (map afterOf (answersFrom default frames))
 distances frames = record {
   in-range = range-along default frames;
   on-end = both-along isMoved stays-x stays-y frames;
-  on-end-by-words = both-along (λ S. isMovedByWords) stays-by-words-x stays-by-words-y frames;
+  on-end-by-words = both-along (λ _ _. isMovedByWords) stays-by-words-x stays-by-words-y frames;
 }
 
 whole-from-fresh : (calls : List Call) (answers : List Answer) (t : State) → Run default calls answers t → Whole default calls answers t
 whole-from-fresh calls answers t run =
     let is = same run in
-    let frames = map bytesOf calls in
+    let frames = map fedOf calls in
     record {
       same-answers = is .answers-same;
       same-state = is .state-same;

@@ -2,6 +2,7 @@
 use mathlib.Core.Path.{refl}
 use lib.Ieee.{ofBits, neg, add, sub, mul, div, lt, le, eq, ne}
 use Rattle.words.specs.Words.{wordAt}
+use Rattle.numbers.specs.Table.{Table}
 use Rattle.numbers.specs.Scalar.{absOf, isFinite, maxOf, minOf, flagOf}
 use Rattle.numbers.specs.Range.{clampOf}
 use Rattle.numbers.specs.Shape.{fromMinSizeOf}
@@ -36,7 +37,7 @@ use Rattle.area.specs.Steps.{begunAt, endedAt, outputsAt, checkAt, stepA
 use Rattle.area.specs.Moved.{isMovedByWords, isDragHeeded, isPressHeeded, isMovedIn, isMoved}
 use Rattle.area.specs.Listing.{listing, ListingShown}
 
-pub listing-shown : ListingShown default
+pub listing-shown : (table : Table) → ListingShown table default
 unfolding
     ofBits neg add sub mul div lt le eq ne
     wordAt absOf isFinite maxOf minOf flagOf clampOf fromMinSizeOf
@@ -60,7 +61,7 @@ unfolding
     begunAt endedAt outputsAt checkAt stepAt
     isMovedByWords isDragHeeded isPressHeeded isMovedIn isMoved
     listing
-listing-shown = record {
+listing-shown table = record {
   accepted = refl;
   stores = refl;
   rests = refl;

@@ -6,6 +6,7 @@ use mathlib.Core.List.{List}
 use Prim.Native.Nat.{ℕ, _+_}
 use lib.ListN.{getD}
 use lib.Ieee.{Float, binary32, eq, ne}
+use Rattle.numbers.specs.Table.{Table}
 use Rattle.numbers.specs.F32 as F32
 use Rattle.numbers.specs.Scalar.{isFinite}
 use Rattle.axis.specs.Wheel.{wheelOf}
@@ -220,30 +221,32 @@ quiet-y bytes u n = record {
 
 -- on axis d: a frame that the checks let through and that names no move does not move it
 abbrev Rests : ℕ → Type 0
-Rests d = (S : State) (bytes : List ℕ) → refusalOf bytes S ≡ 0 → isMovedByWords bytes d ≡ false → isMoved S bytes d ≡ false
+Rests d = (table : Table) (S : State) (bytes : List ℕ) → refusalOf bytes S ≡ 0 → isMovedByWords bytes d ≡ false → isMoved table S bytes d ≡ false
 
 rests-x : Rests 0
 unfolding isMoved endedAt endOf
-rests-x S bytes a h =
-    quiet-unmoved (frameOf bytes) 0 1 _ _ _ _ _ (begunAt S bytes) (quiet-x bytes (unnamed bytes 0 h) (multiplier-finite bytes S a .0))
+rests-x table S bytes a h =
+    quiet-unmoved (frameOf bytes) 0 1 _ _ _ _ _ (begunAt table S bytes) (quiet-x bytes (unnamed bytes 0 h) (multiplier-finite bytes S a .0))
 
 rests-y : Rests 1
 unfolding isMoved endedAt endOf
-rests-y S bytes a h =
-    quiet-unmoved (frameOf bytes) 1 0 _ _ _ _ _ (begunAt S bytes) (quiet-y bytes (unnamed bytes 1 h) (multiplier-finite bytes S a .1))
+rests-y table S bytes a h =
+    quiet-unmoved (frameOf bytes) 1 0 _ _ _ _ _ (begunAt table S bytes) (quiet-y bytes (unnamed bytes 1 h) (multiplier-finite bytes S a .1))
 
 named : (d : ℕ) → Rests d → MovesAreNamed d
-named d rests S bytes a = turned-true (isMoved S bytes d) (isMovedByWords bytes d) (rests S bytes (accepted S bytes a .unrefused))
+named d rests table S bytes a =
+    turned-true (isMoved table S bytes d) (isMovedByWords bytes d) (rests table S bytes (accepted table S bytes a .unrefused))
 
 pub moves-are-named : MovesAreNamed 0 × MovesAreNamed 1
 moves-are-named = (named 0 rests-x, named 1 rests-y)
 
 -- so what holds of an axis that is not moved holds of one that no word moves
-by-words : (d : ℕ) → MovesAreNamed d → StaysOnEnd isMoved d → StaysOnEnd (λ S. isMovedByWords) d
-by-words d names stays S bytes a st h = stays S bytes a st (turned-false (isMoved S bytes d) (isMovedByWords bytes d) (names S bytes a) h)
+by-words : (d : ℕ) → MovesAreNamed d → StaysOnEnd isMoved d → StaysOnEnd (λ _ _. isMovedByWords) d
+by-words d names stays table S bytes a st h =
+    stays table S bytes a st (turned-false (isMoved table S bytes d) (isMovedByWords bytes d) (names table S bytes a) h)
 
-pub stays-by-words-x : StaysOnEnd (λ S. isMovedByWords) 0
+pub stays-by-words-x : StaysOnEnd (λ _ _. isMovedByWords) 0
 stays-by-words-x = by-words 0 (moves-are-named .0) stays-x
 
-pub stays-by-words-y : StaysOnEnd (λ S. isMovedByWords) 1
+pub stays-by-words-y : StaysOnEnd (λ _ _. isMovedByWords) 1
 stays-by-words-y = by-words 1 (moves-are-named .1) stays-y

@@ -5,6 +5,7 @@ use mathlib.Core.List.{List}
 use Prim.Native.Nat.{ℕ}
 use lib.Dec.{eqb}
 use lib.Ieee.{Float}
+use Rattle.numbers.specs.Table.{Table}
 use Rattle.numbers.specs.Scalar.{isFinite}
 use Rattle.axis.specs.Physics.{isOverscrolled, isRubberBanding}
 use Rattle.axis.specs.Wheel.{wheelOf}
@@ -69,22 +70,24 @@ dragged-unbanded m physics i off =
     either BegunUnbanded (i .«direction_enabled») (draggedTo m physics (draggedOffset m physics i)) (leftAlone m)
     (unbanded physics (draggedOffset m physics i) off) refl
 
-stepped-unbanded : (m : AxisMotion) (physics : AxisPhysics) (i : AxisInput) → IsOff physics → BegunUnbanded (steppedOf m physics i)
+stepped-unbanded : (table : Table) (m : AxisMotion) (physics : AxisPhysics) (i : AxisInput) → IsOff physics
+    → BegunUnbanded (steppedOf table m physics i)
 unfolding steppedOf
-stepped-unbanded m physics i off = unbanded physics _ off
+stepped-unbanded table m physics i off = unbanded physics _ off
 
-driven-unbanded : (m : AxisMotion) (physics : AxisPhysics) (i : AxisInput) → IsOff physics → BegunUnbanded (drivenOf m physics i)
+driven-unbanded : (table : Table) (m : AxisMotion) (physics : AxisPhysics) (i : AxisInput) → IsOff physics
+    → BegunUnbanded (drivenOf table m physics i)
 unfolding drivenOf
-driven-unbanded m physics i off =
-    either BegunUnbanded (i .dragged) (draggedOf m physics i) (steppedOf m physics i) (dragged-unbanded m physics i off)
-    (stepped-unbanded m physics i off)
+driven-unbanded table m physics i off =
+    either BegunUnbanded (i .dragged) (draggedOf m physics i) (steppedOf table m physics i) (dragged-unbanded m physics i off)
+    (stepped-unbanded table m physics i off)
 
-begun-unbanded : (f : Frame) (s : State) (d : ℕ) (innerSize : Float) (backgroundDrag hold : Bool) → f .style .kinetic .«rubber_band» ≡ false
-    → BegunUnbanded (axisBegunOf f s d innerSize backgroundDrag hold)
+begun-unbanded : (table : Table) (f : Frame) (s : State) (d : ℕ) (innerSize : Float) (backgroundDrag hold : Bool)
+    → f .style .kinetic .«rubber_band» ≡ false → BegunUnbanded (axisBegunOf table f s d innerSize backgroundDrag hold)
 unfolding begunFrom lastPhysicsOf
-begun-unbanded f s d innerSize backgroundDrag hold off =
-    followed-keeps (drivenFrom f d (beforeOf s d) (openedOf (f .settings) s d) innerSize backgroundDrag hold) _ _ .«rubber_banding»
-    ∙ driven-unbanded _ _ _ (physics-off (f .style .kinetic) _ _ _ _ off)
+begun-unbanded table f s d innerSize backgroundDrag hold off =
+    followed-keeps (drivenFrom table f d (beforeOf s d) (openedOf (f .settings) s d) innerSize backgroundDrag hold) _ _ .«rubber_banding»
+    ∙ driven-unbanded table _ _ _ (physics-off (f .style .kinetic) _ _ _ _ off)
 
 -- the wheel
 abbrev TurnedUnbanded : Turned → Type 0
@@ -143,22 +146,22 @@ word-off bytes h = ap (λ (w : ℕ). eqb w 1) h
 abbrev IsEndedWithin : Ended → ℕ → Type 0
 IsEndedWithin e d = IsWithin (endedOn e d .offset) (extentOn e d .«max_offset»)
 
-within-x : (f : Frame) (s : State) → f .style .kinetic .«rubber_band» ≡ false → IsFiniteOn (endOf f s (beginOf f s)) 0
-    → IsEndedWithin (endOf f s (beginOf f s)) 0
+within-x : (table : Table) (f : Frame) (s : State) → f .style .kinetic .«rubber_band» ≡ false → IsFiniteOn (endOf f s (beginOf table f s)) 0
+    → IsEndedWithin (endOf f s (beginOf table f s)) 0
 unfolding endOf beginOf preparedOf
-within-x f s off n = ended-within f 0 1 _ _ _ _ _ off (begun-unbanded f s 0 _ _ _ off) (n .maximum) (n .offset)
+within-x table f s off n = ended-within f 0 1 _ _ _ _ _ off (begun-unbanded table f s 0 _ _ _ off) (n .maximum) (n .offset)
 
-within-y : (f : Frame) (s : State) → f .style .kinetic .«rubber_band» ≡ false → IsFiniteOn (endOf f s (beginOf f s)) 1
-    → IsEndedWithin (endOf f s (beginOf f s)) 1
+within-y : (table : Table) (f : Frame) (s : State) → f .style .kinetic .«rubber_band» ≡ false → IsFiniteOn (endOf f s (beginOf table f s)) 1
+    → IsEndedWithin (endOf f s (beginOf table f s)) 1
 unfolding endOf beginOf preparedOf
-within-y f s off n = ended-within f 1 0 _ _ _ _ _ off (begun-unbanded f s 1 _ _ _ off) (n .maximum) (n .offset)
+within-y table f s off n = ended-within f 1 0 _ _ _ _ _ off (begun-unbanded table f s 1 _ _ _ off) (n .maximum) (n .offset)
 
-pub in-range : (S : State) (bytes : List ℕ) → isAccepted (stepAt S bytes) ≡ true → wordNo bytes At.kineticRubberBand ≡ 0
-    → IsInRange S bytes (stepAt S bytes .state) 0 × IsInRange S bytes (stepAt S bytes .state) 1
+pub in-range : (table : Table) (S : State) (bytes : List ℕ) → isAccepted (stepAt table S bytes) ≡ true → wordNo bytes At.kineticRubberBand ≡ 0
+    → IsInRange table S bytes (stepAt table S bytes .state) 0 × IsInRange table S bytes (stepAt table S bytes .state) 1
 unfolding maximumOffset nextState endedAt begunAt
-in-range S bytes a h =
-    let t = accepted S bytes a in
+in-range table S bytes a h =
+    let t = accepted table S bytes a in
     let off = word-off bytes h in
     let after : State → Type 0 =
-    λ s. IsWithin (num (s .offset) 0) (maximumOffset S bytes 0) × IsWithin (num (s .offset) 1) (maximumOffset S bytes 1) in
-    subst after (sym (t .state)) (within-x (frameOf bytes) S off (t .x), within-y (frameOf bytes) S off (t .y))
+    λ s. IsWithin (num (s .offset) 0) (maximumOffset table S bytes 0) × IsWithin (num (s .offset) 1) (maximumOffset table S bytes 1) in
+    subst after (sym (t .state)) (within-x table (frameOf bytes) S off (t .x), within-y table (frameOf bytes) S off (t .y))

@@ -8,32 +8,37 @@ use mathlib.Core.List.{List, [], _∷_, _++_, map, append-assoc, append-nil}
 use lib.Dec.{eqb}
 use lib.ListN.{length, take, drop, getD, set, length-append, drop-of-length-le}
 use lib.Seq.{drop-cons}
+use Rattle.numbers.specs.Table.{tableAt}
 use Rattle.area.specs.State.{default}
-use Rattle.area.specs.Call.{callOf}
-use Rattle.area.specs.Steps.{stepAt, answersFrom, stateFrom}
-use Rattle.area.specs.Lists.{byValue, lent, bytesOf, Run}
-use Rattle.area.specs.Replay.{frameLength, callsUpTo, callsOf, framesOf, Part, refusalsFrom, overlay, Replayed}
+use Rattle.area.specs.Call.{callUnder}
+use Rattle.area.specs.Steps.{Fed, stepAt, answersFrom, stateFrom}
+use Rattle.area.specs.Lists.{byValue, lent, fedOf, Run}
+use Rattle.area.specs.Replay.{frameLength, callsUpTo, callsOf, feedOf, Part, refusalsFrom, overlay, Replayed}
 use Rattle.area.specs.declared.state.State.{State}
 use Rattle.area.specs.declared.outcome.Answer.{Answer}
 use Rattle.area.proofs.CallLaws.{step-is-call}
 use Rattle.area.proofs.ListLaws.{run-of, all-lists}
 
 -- ---- the frames of at most n calls
-abbrev pub feed : ℕ → List ℕ → List (List ℕ)
-feed n bytes = map bytesOf (callsUpTo n bytes)
+abbrev pub feed : ℕ → List ℕ → List Fed
+feed n bytes = map fedOf (callsUpTo n bytes)
 
-either-form : (isByValue : Bool) (bytes : List ℕ) → bytesOf (cond isByValue (byValue bytes) (lent bytes)) ≡ bytes
+-- by table T
+abbrev byT : List ℕ → Fed
+byT bytes = record { table = tableAt; bytes = bytes }
+
+either-form : (isByValue : Bool) (bytes : List ℕ) → fedOf (cond isByValue (byValue tableAt bytes) (lent tableAt bytes)) ≡ byT bytes
 either-form true bytes = refl
 either-form false bytes = refl
 
 -- the first frame stands between the flag and the frame's end, and the rest begins there
 feed-next : (calls : List ℕ) (at end n : ℕ) → at < length calls → Part calls (at + 1) end
-    → feed (suc n) (drop at calls) ≡ take (end - (at + 1)) (drop (at + 1) calls) ∷ feed n (drop end calls)
+    → feed (suc n) (drop at calls) ≡ byT (take (end - (at + 1)) (drop (at + 1) calls)) ∷ feed n (drop end calls)
 feed-next calls at end n h p =
     ap (feed (suc n)) (drop-cons calls at 0 h)
-    ∙ ap (λ (b : List ℕ). b ∷ feed n (drop frameLength (drop (suc at) calls))) (either-form (eqb (getD calls at 0) 0) _)
-    ∙ ap (λ (k : ℕ). take frameLength (drop k calls) ∷ feed n (drop frameLength (drop k calls))) (sym (add-one at))
-    ∙ (λ i. sym (p .frame) i ∷ feed n (sym (p .rest) i))
+    ∙ ap (λ (b : Fed). b ∷ feed n (drop frameLength (drop (suc at) calls))) (either-form (eqb (getD calls at 0) 0) _)
+    ∙ ap (λ (k : ℕ). byT (take frameLength (drop k calls)) ∷ feed n (drop frameLength (drop k calls))) (sym (add-one at))
+    ∙ (λ i. byT (sym (p .frame) i) ∷ feed n (sym (p .rest) i))
 
 feed-none : (n : ℕ) → feed n [] ≡ []
 feed-none zero = refl
@@ -60,8 +65,8 @@ pub record Upto (calls before : List ℕ) (state : State) (at i : ℕ) (now : Li
   pub enough : length calls - at ≤ fuel
   pub ahead : i ≤ at
   pub long : length done ≡ i
-  pub same-state : stateFrom state (feed fuel (drop at calls)) ≡ stateFrom default (framesOf calls)
-  pub same-refusals : done ++ refusalsFrom state (feed fuel (drop at calls)) ≡ refusalsFrom default (framesOf calls)
+  pub same-state : stateFrom state (feed fuel (drop at calls)) ≡ stateFrom default (feedOf calls)
+  pub same-refusals : done ++ refusalsFrom state (feed fuel (drop at calls)) ≡ refusalsFrom default (feedOf calls)
   pub here : now ≡ overlay done before
 
 pub same-length-at : {calls before : List ℕ} {state : State} {at i : ℕ} {now : List ℕ} → Upto calls before state at i now
@@ -69,7 +74,7 @@ pub same-length-at : {calls before : List ℕ} {state : State} {at i : ℕ} {now
 same-length-at u = ap length (u .here) ∙ length-overlay (u .done) _
 
 pub begins : (calls before : List ℕ) (state : State) → state ≡ default → Upto calls before state 0 0 before
-unfolding framesOf callsOf
+unfolding feedOf callsOf
 begins calls before state e =
     subst
     (λ (s : State). Upto calls before s 0 0 before)
@@ -91,16 +96,16 @@ module _ (calls before : List ℕ) (state : State) (at i end : ℕ) (now : List 
   frame = take (end - (at + 1)) (drop (at + 1) calls)
 
   abbrev refusal : ℕ
-  refusal = stepAt state frame .outcome .refusal
+  refusal = stepAt tableAt state frame .outcome .refusal
 
   next : at < length calls → Part calls (at + 1) end → (n : ℕ) (u : Upto calls before state at i now) → u .fuel ≡ n
-      → Upto calls before (stepAt state frame .state) end (i + 1) (set now i refusal)
+      → Upto calls before (stepAt tableAt state frame .state) end (i + 1) (set now i refusal)
   next h p zero u k = elim (none h (u .enough) k) [ ]
     where
       none : at < length calls → length calls - at ≤ u .fuel → u .fuel ≡ 0 → ⊥
       none h g k = omega arith
   next h p (suc n) u k =
-      let f : feed (u .fuel) (drop at calls) ≡ frame ∷ feed n (drop end calls) =
+      let f : feed (u .fuel) (drop at calls) ≡ byT frame ∷ feed n (drop end calls) =
       ap (λ (m : ℕ). feed m (drop at calls)) k ∙ feed-next calls at end n h p in
       record {
         fuel = n;
@@ -110,12 +115,12 @@ module _ (calls before : List ℕ) (state : State) (at i end : ℕ) (now : List 
         long = omega (arith, length-append (u .done) (refusal ∷ []), u .long);
         same-state = ap (stateFrom state) (sym f) ∙ u .same-state;
         same-refusals =
-            append-assoc (u .done) (refusal ∷ []) _ ∙ ap (λ (bs : List (List ℕ)). u .done ++ refusalsFrom state bs) (sym f) ∙ u .same-refusals;
+            append-assoc (u .done) (refusal ∷ []) _ ∙ ap (λ (bs : List Fed). u .done ++ refusalsFrom state bs) (sym f) ∙ u .same-refusals;
         here = (λ j. set (u .here j) (sym (u .long) j) refusal) ∙ put-next (u .done) before refusal;
       }
 
   -- the same, on what the callees gave
-  pub turns : (answer : Answer) (after : List ℕ) → answer ≡ callOf state frame → after ≡ set now i (answer .outcome .refusal)
+  pub turns : (answer : Answer) (after : List ℕ) → answer ≡ callUnder tableAt state frame → after ≡ set now i (answer .outcome .refusal)
       → at < length calls → Part calls (at + 1) end → Upto calls before state at i now → Upto calls before (answer .state) end (i + 1) after
   turns answer after e w h p u =
       subst
@@ -123,20 +128,20 @@ module _ (calls before : List ℕ) (state : State) (at i end : ℕ) (now : List 
       (sym w)
       (subst
       (λ (r : Answer). Upto calls before (r .state) end (i + 1) (set now i (r .outcome .refusal)))
-      (step-is-call state frame ∙ sym e)
+      (step-is-call tableAt state frame ∙ sym e)
       (next h p (u .fuel) u refl))
 
 pub finishes : (calls before : List ℕ) (state : State) (at i : ℕ) (now : List ℕ) → length calls ≤ at → Upto calls before state at i now
     → Replayed calls state before now
-unfolding framesOf
+unfolding feedOf
 finishes calls before state at i now h u =
     let f : feed (u .fuel) (drop at calls) ≡ [] = ap (feed (u .fuel)) (drop-of-length-le calls h) ∙ feed-none (u .fuel) in
-    let all : u .done ≡ refusalsFrom default (framesOf calls) =
-    sym (append-nil (u .done)) ∙ ap (λ (bs : List (List ℕ)). u .done ++ refusalsFrom state bs) (sym f) ∙ u .same-refusals in
-    let same : state ≡ stateFrom default (framesOf calls) = ap (stateFrom state) (sym f) ∙ u .same-state in
-    let ran = subst (Run default (callsOf calls) (answersFrom default (framesOf calls))) (sym same) (run-of default (callsOf calls)) in
+    let all : u .done ≡ refusalsFrom default (feedOf calls) =
+    sym (append-nil (u .done)) ∙ ap (λ (bs : List Fed). u .done ++ refusalsFrom state bs) (sym f) ∙ u .same-refusals in
+    let same : state ≡ stateFrom default (feedOf calls) = ap (stateFrom state) (sym f) ∙ u .same-state in
+    let ran = subst (Run default (callsOf calls) (answersFrom default (feedOf calls))) (sym same) (run-of default (callsOf calls)) in
     record {
       ran = ran;
-      whole = all-lists .whole (callsOf calls) (answersFrom default (framesOf calls)) state ran;
+      whole = all-lists .whole (callsOf calls) (answersFrom default (feedOf calls)) state ran;
       same-refusals = u .here ∙ ap (λ (xs : List ℕ). overlay xs before) all;
     }

@@ -3,6 +3,7 @@ use mathlib.Core.Path.{_≡_, sym, ap, _∙_}
 use mathlib.Core.Bool.{Bool, true, false, not, _&&_, true≢false}
 use Prim.Native.Nat.{ℕ}
 use lib.Ieee.{Float, ne}
+use Rattle.numbers.specs.Table.{Table}
 use Rattle.numbers.specs.F32.{zero}
 use Rattle.axis.specs.Wheel.{wheelOf}
 use Rattle.axis.specs.declared.physics.AxisPhysics.{AxisPhysics}
@@ -38,25 +39,26 @@ unfolding draggedOf
 undragged-stuck m physics i h k =
     left BegunStuck (i .«direction_enabled») (draggedTo m physics (draggedOffset m physics i)) (leftAlone m) h k
 
-stepped-stuck : (m : AxisMotion) (physics : AxisPhysics) (i : AxisInput) → m .«scroll_stuck_to_end» ≡ true → BegunStuck (steppedOf m physics i)
+stepped-stuck : (table : Table) (m : AxisMotion) (physics : AxisPhysics) (i : AxisInput) → m .«scroll_stuck_to_end» ≡ true
+    → BegunStuck (steppedOf table m physics i)
 unfolding steppedOf
-stepped-stuck m physics i k = k
+stepped-stuck table m physics i k = k
 
-driven-stuck : (m : AxisMotion) (physics : AxisPhysics) (i : AxisInput) → (i .dragged && i .«direction_enabled») ≡ false
-    → m .«scroll_stuck_to_end» ≡ true → BegunStuck (drivenOf m physics i)
+driven-stuck : (table : Table) (m : AxisMotion) (physics : AxisPhysics) (i : AxisInput) → (i .dragged && i .«direction_enabled») ≡ false
+    → m .«scroll_stuck_to_end» ≡ true → BegunStuck (drivenOf table m physics i)
 unfolding drivenOf
-driven-stuck m physics i h k =
-    chosen BegunStuck (i .dragged) (draggedOf m physics i) (steppedOf m physics i)
+driven-stuck table m physics i h k =
+    chosen BegunStuck (i .dragged) (draggedOf m physics i) (steppedOf table m physics i)
     (λ t. undragged-stuck m physics i (ap (λ (b : Bool). b && i .«direction_enabled») (sym t) ∙ h) k)
-    (λ t. stepped-stuck m physics i k)
+    (λ t. stepped-stuck table m physics i k)
 
-pub begun-stuck : (f : Frame) (s : State) (d : ℕ) (innerSize : Float) (backgroundDrag hold : Bool)
+pub begun-stuck : (table : Table) (f : Frame) (s : State) (d : ℕ) (innerSize : Float) (backgroundDrag hold : Bool)
     → ((backgroundDrag && f .host .dragged) && flag (f .settings .«direction_enabled») d) ≡ false → flag (s .«scroll_stuck_to_end») d ≡ true
-    → BegunStuck (axisBegunOf f s d innerSize backgroundDrag hold)
+    → BegunStuck (axisBegunOf table f s d innerSize backgroundDrag hold)
 unfolding begunFrom inputOf openedOf
-begun-stuck f s d innerSize backgroundDrag hold h k =
-    followed-keeps (drivenFrom f d (beforeOf s d) (openedOf (f .settings) s d) innerSize backgroundDrag hold) _ _ .stuck
-    ∙ driven-stuck (openedOf (f .settings) s d) _ (inputOf f d backgroundDrag hold) h k
+begun-stuck table f s d innerSize backgroundDrag hold h k =
+    followed-keeps (drivenFrom table f d (beforeOf s d) (openedOf (f .settings) s d) innerSize backgroundDrag hold) _ _ .stuck
+    ∙ driven-stuck table (openedOf (f .settings) s d) _ (inputOf f d backgroundDrag hold) h k
 
 -- ---- targets, deltas, and a wheel that is not taken, leave it stuck
 abbrev pub AdjustedStuck : Adjusted → Type 0

@@ -91,11 +91,12 @@ unmoved-y bytes = rw (
 )
 
 -- ---- so the list shows its end
-shows : (d : ℕ) → ((bytes : List ℕ) → isMovedByWords (withoutInput bytes) d ≡ false) → StaysOnEnd (λ S. isMovedByWords) d → 0 < At.stickToEnd + d
+shows : (d : ℕ) → ((bytes : List ℕ) → isMovedByWords (withoutInput bytes) d ≡ false) → StaysOnEnd (λ _ _. isMovedByWords) d → 0 < At.stickToEnd + d
     → isInput (At.stickToEnd + d) ≡ false → ShowsWithoutInput d
 shows d unmoved stays p kept = record {
   unmoved = unmoved;
-  on-end = λ S bytes sticks stuck a. stays S (withoutInput bytes) a (word-is bytes (At.stickToEnd + d) p false kept ∙ sticks) (unmoved bytes) stuck;
+  on-end = λ table S bytes sticks stuck a.
+      stays table S (withoutInput bytes) a (word-is bytes (At.stickToEnd + d) p false kept ∙ sticks) (unmoved bytes) stuck;
 }
 
 pub shows-without-input : ShowsWithoutInput 0 × ShowsWithoutInput 1

@@ -1,9 +1,10 @@
--- ScrollArea::begin, as far as document 01 keeps it.
+-- ScrollArea::begin, as far as document 01 keeps it, under the table that its steps use.
 use mathlib.Core.Path.{_≡_, refl}
 use Prim.Native.Nat.{ℕ}
 use mathlib.Core.Bool.{Bool, true, false, _&&_, _||_}
 use mathlib.Core.List.{[], _∷_}
 use lib.Ieee.{Float, binary32, ofBits, round}
+use Rattle.numbers.specs.Table.{Table}
 use Rattle.numbers.specs.F32.{plus, zero}
 use Rattle.numbers.specs.Scalar.{minOf}
 use Rattle.numbers.specs.Shape.{fromMinSizeOf}
@@ -94,17 +95,17 @@ lastPhysicsOf f d before innerSize =
     innerSize
 
 -- drag or step
-abbrev pub drivenFrom : Frame → ℕ → AxisBefore → AxisMotion → Float → Bool → Bool → AxisBegun
-drivenFrom f d before m innerSize backgroundDrag hold = drivenOf m (lastPhysicsOf f d before innerSize) (inputOf f d backgroundDrag hold)
+abbrev pub drivenFrom : Table → Frame → ℕ → AxisBefore → AxisMotion → Float → Bool → Bool → AxisBegun
+drivenFrom table f d before m innerSize backgroundDrag hold = drivenOf table m (lastPhysicsOf f d before innerSize) (inputOf f d backgroundDrag hold)
 
 -- one axis through `begin`, from the motion that it opens with: "A scroll target under way .. moves after drag or step"
-unfoldable pub begunFrom : Frame → ℕ → AxisBefore → AxisMotion → Float → Bool → Bool → AxisBegun
-begunFrom f d before m innerSize backgroundDrag hold =
-    followedOf (drivenFrom f d before m innerSize backgroundDrag hold) (f .host .time) (dtOf (f .host .«stable_dt»))
+unfoldable pub begunFrom : Table → Frame → ℕ → AxisBefore → AxisMotion → Float → Bool → Bool → AxisBegun
+begunFrom table f d before m innerSize backgroundDrag hold =
+    followedOf (drivenFrom table f d before m innerSize backgroundDrag hold) (f .host .time) (dtOf (f .host .«stable_dt»))
 
 -- the explicit offset first
-abbrev pub axisBegunOf : Frame → State → ℕ → Float → Bool → Bool → AxisBegun
-axisBegunOf f s d innerSize backgroundDrag hold = begunFrom f d (beforeOf s d) (openedOf (f .settings) s d) innerSize backgroundDrag hold
+abbrev pub axisBegunOf : Table → Frame → State → ℕ → Float → Bool → Bool → AxisBegun
+axisBegunOf table f s d innerSize backgroundDrag hold = begunFrom table f d (beforeOf s d) (openedOf (f .settings) s d) innerSize backgroundDrag hold
 
 -- "let inner_rect", of a Prepared
 unfoldable pub innerRectOf : Prepared → Rect
@@ -119,18 +120,18 @@ unfoldable pub viewportOf : Frame → State → Prepared → Rect
 viewportOf f s p = fromMinSizeOf (viewportMin f s) (p .«x_space» .«inner_size» ∷ p .«y_space» .«inner_size» ∷ [])
 
 -- both axes, from their spaces
-unfoldable pub preparedOf : Frame → State → AxisSpace → AxisSpace → Prepared
-preparedOf f s x y =
+unfoldable pub preparedOf : Table → Frame → State → AxisSpace → AxisSpace → Prepared
+preparedOf table f s x y =
     let backgroundDrag = hasBackgroundDrag f s in
     let hold = holdOverscroll (f .host) (innerRect x y) in
     record {
       «x_space» = x;
       «y_space» = y;
       «has_background_drag» = backgroundDrag;
-      x = axisBegunOf f s 0 (x .«inner_size») backgroundDrag hold;
-      y = axisBegunOf f s 1 (y .«inner_size») backgroundDrag hold;
+      x = axisBegunOf table f s 0 (x .«inner_size») backgroundDrag hold;
+      y = axisBegunOf table f s 1 (y .«inner_size») backgroundDrag hold;
     }
 
 -- ScrollArea::begin
-unfoldable pub beginOf : Frame → State → Prepared
-beginOf f s = preparedOf f s (spaceOf f (flag (s .«show_scroll») 1) 0 1) (spaceOf f (flag (s .«show_scroll») 0) 1 0)
+unfoldable pub beginOf : Table → Frame → State → Prepared
+beginOf table f s = preparedOf table f s (spaceOf f (flag (s .«show_scroll») 1) 0 1) (spaceOf f (flag (s .«show_scroll») 0) 1 0)

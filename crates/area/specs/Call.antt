@@ -1,8 +1,9 @@
 -- "The frame call": the checks but 8 in order, 7 on the bar and handle that `begin` and `end` reach; then 8 on what they put out.
 use Prim.Native.Nat.{ℕ}
-use mathlib.Core.Bool.{Bool, cond}
+use mathlib.Core.Bool.{cond}
 use mathlib.Core.List.{List}
 use lib.Dec.{eqb}
+use Rattle.numbers.specs.Table.{Table}
 use Rattle.area.specs.Frame.{frameOf}
 use Rattle.area.specs.Checks.{refusalOf}
 use Rattle.area.specs.Begin.{beginOf}
@@ -13,14 +14,15 @@ use Rattle.area.specs.declared.state.State.{State}
 use Rattle.area.specs.declared.frame.Frame.{Frame}
 use Rattle.area.specs.declared.outcome.Answer.{Answer}
 
-unfoldable pub runOf : State → Frame → Answer
-runOf state frame =
-    let prepared = beginOf frame state in
+unfoldable pub runOf : Table → State → Frame → Answer
+runOf table state frame =
+    let prepared = beginOf table frame state in
     let ended = endOf frame state prepared in
     let answer = answerOf frame state prepared ended in
     cond (isPressBlocked ended) (refusedOf state 7) (cond (isAnswerFinite answer) answer (refusedOf state 8))
 
-unfoldable pub callOf : State → List ℕ → Answer
-callOf state bytes =
+-- under the table that the call uses; T serves where it uses none
+unfoldable pub callUnder : Table → State → List ℕ → Answer
+callUnder table state bytes =
     let refusal = refusalOf bytes state in
-    cond (eqb refusal 0) (runOf state (frameOf bytes)) (refusedOf state refusal)
+    cond (eqb refusal 0) (runOf table state (frameOf bytes)) (refusedOf state refusal)

@@ -1,8 +1,9 @@
--- The explicit offset, then the hand's drag or the axis's own step, on one axis.
+-- The explicit offset, then the hand's drag or the axis's own step under a table, on one axis.
 use Prim.Native.Nat.{ℕ}
-use mathlib.Core.Bool.{Bool, false, cond}
+use mathlib.Core.Bool.{false, cond}
 use lib.ListN.{getD}
 use lib.Ieee.{Float, neg}
+use Rattle.numbers.specs.Table.{Table}
 use Rattle.numbers.specs.F32.{times}
 use Rattle.numbers.specs.Scalar.{flagOf}
 use Rattle.axis.specs.Physics.{dragOf, isRubberBanding}
@@ -93,9 +94,9 @@ steppedTo m physics t = record {
 }
 
 -- the else of "if background_drag_response .. response.dragged()"
-unfoldable pub steppedOf : AxisMotion → AxisPhysics → AxisInput → AxisBegun
-steppedOf m physics i = steppedTo m physics (stepOf physics (m .offset) (releasedOf i (m .vel)) (i .dt) (i .«hold_overscroll»))
+unfoldable pub steppedOf : Table → AxisMotion → AxisPhysics → AxisInput → AxisBegun
+steppedOf table m physics i = steppedTo m physics (stepOf table physics (m .offset) (releasedOf i (m .vel)) (i .dt) (i .«hold_overscroll»))
 
 -- drag or step
-unfoldable pub drivenOf : AxisMotion → AxisPhysics → AxisInput → AxisBegun
-drivenOf m physics i = cond (i .dragged) (draggedOf m physics i) (steppedOf m physics i)
+unfoldable pub drivenOf : Table → AxisMotion → AxisPhysics → AxisInput → AxisBegun
+drivenOf table m physics i = cond (i .dragged) (draggedOf m physics i) (steppedOf table m physics i)

@@ -5,6 +5,7 @@ use mathlib.Core.List.{List, [], _∷_, _++_}
 use Prim.Native.Nat.{ℕ, _+_}
 use lib.ListN.{replicate}
 use lib.Ieee.{inf, binary32, ofBits, ofInt}
+use Rattle.numbers.specs.Table.{Table}
 use Rattle.numbers.specs.F32.{num, zero}
 use Rattle.words.specs.Words.{bytesOf}
 use Rattle.area.specs.State.{clampedOffset}
@@ -85,17 +86,17 @@ unfoldable pub listing : List ℕ
 unfolding bytesOf
 listing = bytesOf listingWords
 
--- ---- what it shows, from the state s
-pub record ListingShown (s : State) : Type 0 where
+-- ---- what it shows, from the state s, under any table: nothing moves in it, so no entry is read
+pub record ListingShown (table : Table) (s : State) : Type 0 where
   -- as printed: the refusal, the stored offset, the velocity, the stuck flags
-  pub accepted : isAccepted (stepAt s listing) ≡ true
-  pub stores : stepAt s listing .state .offset ≡ zero ∷ ofBits binary32 f300 ∷ []
-  pub rests : stepAt s listing .state .vel ≡ zero ∷ zero ∷ []
-  pub stuck : stepAt s listing .state .«scroll_stuck_to_end» ≡ true ∷ true ∷ []
+  pub accepted : isAccepted (stepAt table s listing) ≡ true
+  pub stores : stepAt table s listing .state .offset ≡ zero ∷ ofBits binary32 f300 ∷ []
+  pub rests : stepAt table s listing .state .vel ≡ zero ∷ zero ∷ []
+  pub stuck : stepAt table s listing .state .«scroll_stuck_to_end» ≡ true ∷ true ∷ []
   -- what demand 3's laws ask of a frame: rubber band off; sticking on y; no move, in either reading
   pub no-rubber-band : wordNo listing At.kineticRubberBand ≡ 0
   pub sticks : wordNo listing (At.stickToEnd + 1) ≡ 1
-  pub unmoved : (isMoved s listing 0 ≡ false) × (isMoved s listing 1 ≡ false)
+  pub unmoved : (isMoved table s listing 0 ≡ false) × (isMoved table s listing 1 ≡ false)
   pub unmoved-by-words : (isMovedByWords listing 0 ≡ false) × (isMovedByWords listing 1 ≡ false)
   -- the shown offset: on y the list's end, 300
-  pub shows : clampedOffset (stepAt s listing .state) ≡ zero ∷ ofBits binary32 f300 ∷ []
+  pub shows : clampedOffset (stepAt table s listing .state) ≡ zero ∷ ofBits binary32 f300 ∷ []

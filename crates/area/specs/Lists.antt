@@ -1,69 +1,71 @@
--- Demand 3: "one claim about the whole list, not one for each call".
+-- Demand 3: "one claim about the whole list, not one for each call", in which each call has the table that it uses.
 use Prim.Native.Nat.{ℕ, _+_}
 use mathlib.Core.Path.{_≡_}
 use mathlib.Core.Bool.{Bool, true, false}
 use mathlib.Core.List.{List, [], _∷_, map}
 use lib.Ieee.{Float, le, eq}
+use Rattle.numbers.specs.Table.{Table}
 use Rattle.numbers.specs.F32.{zero}
 use Rattle.numbers.specs.Scalar.{maxOf}
 use Rattle.area.specs.Pair.{num}
 use Rattle.area.specs.State.{clampedOffset}
 use Rattle.area.specs.Layout as At
 use Rattle.area.specs.Frame.{wordNo}
-use Rattle.area.specs.Call.{callOf}
-use Rattle.area.specs.Steps.{endedAt, answersFrom, stateFrom, acceptedFrom, isAccepted}
+use Rattle.area.specs.Call.{callUnder}
+use Rattle.area.specs.Steps.{Fed, endedAt, answersFrom, stateFrom, acceptedFrom, isAccepted}
 use Rattle.area.specs.Moved.{extentOn, isMoved, isMovedByWords}
 use Rattle.area.specs.Listing.{ListingShown}
 use Rattle.area.specs.declared.state.State.{State}
 use Rattle.area.specs.declared.outcome.Outcome.{Outcome}
 use Rattle.area.specs.declared.outcome.Answer.{Answer}
 
--- ---- what the two calls promise: their `ensures`, as they stand
+-- ---- what the calls promise, under the table that each uses: their `ensures`, as they stand
 
 -- by value
-abbrev pub FrameSays : State → List ℕ → Answer → Type 0
-FrameSays given bytes r = r ≡ callOf given bytes
+abbrev pub FrameSays : Table → State → List ℕ → Answer → Type 0
+FrameSays table given bytes r = r ≡ callUnder table given bytes
 
 -- lent: "the frame is changed into it there"
-pub record LentSays (given : State) (bytes : List ℕ) (outcome : Outcome) (left : State) : Type 0 where
-  pub answers : outcome ≡ callOf given bytes .outcome
-  pub leaves : left ≡ callOf given bytes .state
+pub record LentSays (table : Table) (given : State) (bytes : List ℕ) (outcome : Outcome) (left : State) : Type 0 where
+  pub answers : outcome ≡ callUnder table given bytes .outcome
+  pub leaves : left ≡ callUnder table given bytes .state
 
--- ---- a list of calls, in any mix of the two forms
+-- ---- a list of calls, in any mix of the two forms and of tables: "for each call the loaded table that it uses"
 pub data Call : Type 0 where
-  byValue : List ℕ → Call
-  lent : List ℕ → Call
+  byValue : Table → List ℕ → Call
+  lent : Table → List ℕ → Call
 
-abbrev pub bytesOf : Call → List ℕ
-bytesOf (byValue bytes) = bytes
-bytesOf (lent bytes) = bytes
+-- what the steps take of a call
+abbrev pub fedOf : Call → Fed
+fedOf (byValue table bytes) = record { table = table; bytes = bytes }
+fedOf (lent table bytes) = record { table = table; bytes = bytes }
 
 -- Run s calls answers t: from the state s the calls gave these answers and left t. Each call keeps its own promise and is given what
 -- the call before it returned or left.
 pub data Run : State → List Call → List Answer → State → Type 0 where
   ends : {s : State} → Run s [] [] s
-  returned : {s : State} {bytes : List ℕ} {r : Answer} {calls : List Call} {answers : List Answer} {t : State}
-      → FrameSays s bytes r → Run (r .state) calls answers t → Run s (byValue bytes ∷ calls) (r ∷ answers) t
-  left : {s : State} {bytes : List ℕ} {o : Outcome} {u : State} {calls : List Call} {answers : List Answer} {t : State}
-      → LentSays s bytes o u → Run u calls answers t → Run s (lent bytes ∷ calls) (record { state = u; outcome = o } ∷ answers) t
+  returned : {table : Table} {s : State} {bytes : List ℕ} {r : Answer} {calls : List Call} {answers : List Answer} {t : State}
+      → FrameSays table s bytes r → Run (r .state) calls answers t → Run s (byValue table bytes ∷ calls) (r ∷ answers) t
+  left : {table : Table} {s : State} {bytes : List ℕ} {o : Outcome} {u : State} {calls : List Call} {answers : List Answer} {t : State}
+      → LentSays table s bytes o u → Run u calls answers t → Run s (lent table bytes ∷ calls) (record { state = u; outcome = o } ∷ answers) t
 
--- ---- the distances
+-- ---- the distances, which "hold under every table that loads, by an argument that never looks at its entries": here under every table
 
 -- "A frame's maximum offset is that of `end`"
-unfoldable pub maximumOffset : State → List ℕ → ℕ → Float
-maximumOffset S bytes d = extentOn (endedAt S bytes) d .«max_offset»
+unfoldable pub maximumOffset : Table → State → List ℕ → ℕ → Float
+maximumOffset table S bytes d = extentOn (endedAt table S bytes) d .«max_offset»
 
 -- "the list's end is the larger of 0 and it"
-abbrev pub listEnd : State → List ℕ → ℕ → Float
-listEnd S bytes d = maxOf (maximumOffset S bytes d) zero
+abbrev pub listEnd : Table → State → List ℕ → ℕ → Float
+listEnd table S bytes d = maxOf (maximumOffset table S bytes d) zero
 
 -- "The distance to a range is zero exactly where it contains the offset": the offset stored after the frame lies in 0 to the list's end
-abbrev pub IsInRange : State → List ℕ → State → ℕ → Type 0
-IsInRange S bytes after d = (le zero (num (after .offset) d) ≡ true) × (le (num (after .offset) d) (listEnd S bytes d) ≡ true)
+abbrev pub IsInRange : Table → State → List ℕ → State → ℕ → Type 0
+IsInRange table S bytes after d = (le zero (num (after .offset) d) ≡ true) × (le (num (after .offset) d) (listEnd table S bytes d) ≡ true)
 
 -- "to the end where the two compare equal": the offset shown after the frame is the list's end
-abbrev pub IsOnEnd : State → List ℕ → State → ℕ → Type 0
-IsOnEnd S bytes after d = eq (num (clampedOffset after) d) (listEnd S bytes d) ≡ true
+abbrev pub IsOnEnd : Table → State → List ℕ → State → ℕ → Type 0
+IsOnEnd table S bytes after d = eq (num (clampedOffset after) d) (listEnd table S bytes d) ≡ true
 
 -- ---- along the calls: of each, whether it was accepted, and the state after it
 pub record After : Type 0 where
@@ -74,46 +76,48 @@ abbrev pub afterOf : Answer → After
 afterOf r = record { accepted = isAccepted r; state = r .state }
 
 -- after each accepted frame with word 39 equal to 0 the stored offset is in its range, on both axes
-abbrev pub RangeAlong : State → List (List ℕ) → List After → Type 0
-RangeAlong S (bytes ∷ rest) (r ∷ afters) =
-    (r .accepted ≡ true → wordNo bytes At.kineticRubberBand ≡ 0 → IsInRange S bytes (r .state) 0 × IsInRange S bytes (r .state) 1)
+abbrev pub RangeAlong : State → List Fed → List After → Type 0
+RangeAlong S (fed ∷ rest) (r ∷ afters) =
+    (r .accepted ≡ true → wordNo (fed .bytes) At.kineticRubberBand ≡ 0
+    → IsInRange (fed .table) S (fed .bytes) (r .state) 0 × IsInRange (fed .table) S (fed .bytes) (r .state) 1)
     × RangeAlong (r .state) rest afters
 RangeAlong S [] [] = Unit {0}
 RangeAlong S [] (r ∷ afters) = ⊥
-RangeAlong S (bytes ∷ rest) [] = ⊥
+RangeAlong S (fed ∷ rest) [] = ⊥
 
 -- as long as every accepted frame sticks to the end on axis d and does not move it, the list shows its end after each of them
-abbrev pub EndAlong : (State → List ℕ → ℕ → Bool) → ℕ → State → List (List ℕ) → List After → Type 0
-EndAlong moved d S (bytes ∷ rest) (r ∷ afters) =
-    (r .accepted ≡ true → wordNo bytes (At.stickToEnd + d) ≡ 1 → moved S bytes d ≡ false
-    → IsOnEnd S bytes (r .state) d × EndAlong moved d (r .state) rest afters)
+abbrev pub EndAlong : (Table → State → List ℕ → ℕ → Bool) → ℕ → State → List Fed → List After → Type 0
+EndAlong moved d S (fed ∷ rest) (r ∷ afters) =
+    (r .accepted ≡ true → wordNo (fed .bytes) (At.stickToEnd + d) ≡ 1 → moved (fed .table) S (fed .bytes) d ≡ false
+    → IsOnEnd (fed .table) S (fed .bytes) (r .state) d × EndAlong moved d (r .state) rest afters)
     × (r .accepted ≡ false → EndAlong moved d (r .state) rest afters)
 EndAlong moved d S [] [] = Unit {0}
 EndAlong moved d S [] (r ∷ afters) = ⊥
-EndAlong moved d S (bytes ∷ rest) [] = ⊥
+EndAlong moved d S (fed ∷ rest) [] = ⊥
 
 -- the distances that are zero
-pub record DistancesAlong (S : State) (frames : List (List ℕ)) (afters : List After) : Type 0 where
+pub record DistancesAlong (S : State) (frames : List Fed) (afters : List After) : Type 0 where
   -- "with rubber band off the stored offset lies in the range"
   pub in-range : RangeAlong S frames afters
   -- "a sticking axis that nobody moves shows the list's end": in the narrowest reading of a move, and in the one by words
   pub on-end : EndAlong isMoved 0 S frames afters × EndAlong isMoved 1 S frames afters
-  pub on-end-by-words : EndAlong (λ T. isMovedByWords) 0 S frames afters × EndAlong (λ T. isMovedByWords) 1 S frames afters
+  pub on-end-by-words : EndAlong (λ _ _. isMovedByWords) 0 S frames afters × EndAlong (λ _ _. isMovedByWords) 1 S frames afters
 
 -- ---- the claim
 
 -- what holds of a list of calls from the state s, with their answers and the state t after them
 pub record Whole (s : State) (calls : List Call) (answers : List Answer) (t : State) : Type 0 where
   -- "answers and state equal document 01's steps"
-  pub same-answers : answers ≡ answersFrom s (map bytesOf calls)
-  pub same-state : t ≡ stateFrom s (map bytesOf calls)
+  pub same-answers : answers ≡ answersFrom s (map fedOf calls)
+  pub same-state : t ≡ stateFrom s (map fedOf calls)
   -- "the accepted frames alone reach the same state"
-  pub accepted-alone : stateFrom s (acceptedFrom s (map bytesOf calls)) ≡ t
+  pub accepted-alone : stateFrom s (acceptedFrom s (map fedOf calls)) ≡ t
   -- the range and the end
-  pub distances : DistancesAlong s (map bytesOf calls) (map afterOf answers)
+  pub distances : DistancesAlong s (map fedOf calls) (map afterOf answers)
 
--- of every list of calls that begins at s; each list has such a run, and the document's own frame meets what the laws ask
+-- of every list of calls that begins at s, whichever table each of them uses; each list has such a run, and the document's own frame meets
+-- what the laws ask
 pub record AllLists (s : State) : Type 0 where
   pub whole : (calls : List Call) (answers : List Answer) (t : State) → Run s calls answers t → Whole s calls answers t
-  pub has-run : (calls : List Call) → Run s calls (answersFrom s (map bytesOf calls)) (stateFrom s (map bytesOf calls))
-  pub listing-shown : ListingShown s
+  pub has-run : (calls : List Call) → Run s calls (answersFrom s (map fedOf calls)) (stateFrom s (map fedOf calls))
+  pub listing-shown : (table : Table) → ListingShown table s

@@ -7,6 +7,7 @@ use mathlib.Core.List.{List}
 use lib.Dec.{eqb}
 use lib.ListN.{getD}
 use lib.Ieee.{eq, ne}
+use Rattle.numbers.specs.Table.{Table}
 use Rattle.numbers.specs.F32.{zero}
 use Rattle.area.specs.Pair.{num, flag}
 use Rattle.area.specs.Layout as At
@@ -71,9 +72,11 @@ isPressHeeded f d showScroll =
 unfoldable pub isMovedIn : Frame → Prepared → ℕ → AxisEnded → Bool
 isMovedIn f p d e = isDragHeeded f p d || (e .consumed || (e .«had_explicit_scroll_adjustment» || isPressHeeded f d (e .«show_scroll»)))
 
-unfoldable pub isMoved : State → List ℕ → ℕ → Bool
-isMoved S bytes d = isMovedIn (frameOf bytes) (begunAt S bytes) d (endedOn (endedAt S bytes) d)
+unfoldable pub isMoved : Table → State → List ℕ → ℕ → Bool
+isMoved table S bytes d = isMovedIn (frameOf bytes) (begunAt table S bytes) d (endedOn (endedAt table S bytes) d)
 
 -- ---- the narrowest reading lies in the one by words: no accepted frame moves axis d without a word that names the move
 abbrev pub MovesAreNamed : ℕ → Type 0
-MovesAreNamed d = (S : State) (bytes : List ℕ) → isAccepted (stepAt S bytes) ≡ true → isMoved S bytes d ≡ true → isMovedByWords bytes d ≡ true
+MovesAreNamed d =
+    (table : Table) (S : State) (bytes : List ℕ) → isAccepted (stepAt table S bytes) ≡ true → isMoved table S bytes d ≡ true
+    → isMovedByWords bytes d ≡ true

@@ -1,21 +1,22 @@
 -- A list of calls in bytes: for each call a flag, 0 for a call by value and any other for a lent one, and the frame; the last frame
--- may be shorter.
+-- may be shorter. Every call is by table T.
 use Prim.Native.Nat.{ℕ, zero, suc, _≤_, _-_}
 use mathlib.Core.Path.{_≡_}
 use mathlib.Core.Bool.{cond}
 use mathlib.Core.List.{List, [], _∷_, map}
 use lib.Dec.{eqb}
 use lib.ListN.{length, take, drop}
+use Rattle.numbers.specs.Table.{tableAt}
 use Rattle.area.specs.State.{default}
-use Rattle.area.specs.Steps.{answersFrom}
-use Rattle.area.specs.Lists.{Call, byValue, lent, bytesOf, Run, Whole}
+use Rattle.area.specs.Steps.{Fed, answersFrom}
+use Rattle.area.specs.Lists.{Call, byValue, lent, fedOf, Run, Whole}
 use Rattle.area.specs.declared.state.State.{State}
 
 abbrev pub frameLength : ℕ
 frameLength = 416
 
 abbrev pub callBy : ℕ → List ℕ → Call
-callBy by bytes = cond (eqb by 0) (byValue bytes) (lent bytes)
+callBy by bytes = cond (eqb by 0) (byValue tableAt bytes) (lent tableAt bytes)
 
 -- at most n calls
 abbrev pub callsUpTo : ℕ → List ℕ → List Call
@@ -28,8 +29,8 @@ unfoldable pub callsOf : List ℕ → List Call
 callsOf bytes = callsUpTo (length bytes) bytes
 
 -- what the steps are fed
-unfoldable pub framesOf : List ℕ → List (List ℕ)
-framesOf bytes = map bytesOf (callsOf bytes)
+unfoldable pub feedOf : List ℕ → List Fed
+feedOf bytes = map fedOf (callsOf bytes)
 
 -- the frame that begins at `start` ends at `end`
 pub record Part (bytes : List ℕ) (start end : ℕ) : Type 0 where
@@ -38,7 +39,7 @@ pub record Part (bytes : List ℕ) (start end : ℕ) : Type 0 where
   pub frame : take (end - start) (drop start bytes) ≡ take frameLength (drop start bytes)
   pub rest : drop end bytes ≡ drop frameLength (drop start bytes)
 
-abbrev pub refusalsFrom : State → List (List ℕ) → List ℕ
+abbrev pub refusalsFrom : State → List Fed → List ℕ
 refusalsFrom S frames = map (λ r. r .outcome .refusal) (answersFrom S frames)
 
 -- a list laid over the start of another, as far as there is room
@@ -50,6 +51,6 @@ overlay (x ∷ xs) (y ∷ places) = x ∷ overlay xs places
 -- the calls in `bytes`, from a fresh state: they gave the steps' answers and left `state`; so all of demand 3 holds of them; and `after`
 -- is what `before` became
 pub record Replayed (bytes : List ℕ) (state : State) (before after : List ℕ) : Type 0 where
-  pub ran : Run default (callsOf bytes) (answersFrom default (framesOf bytes)) state
-  pub whole : Whole default (callsOf bytes) (answersFrom default (framesOf bytes)) state
-  pub same-refusals : after ≡ overlay (refusalsFrom default (framesOf bytes)) before
+  pub ran : Run default (callsOf bytes) (answersFrom default (feedOf bytes)) state
+  pub whole : Whole default (callsOf bytes) (answersFrom default (feedOf bytes)) state
+  pub same-refusals : after ≡ overlay (refusalsFrom default (feedOf bytes)) before

@@ -4,6 +4,7 @@ use mathlib.Core.Path.{_≡_, refl}
 use mathlib.Core.Bool.{Bool, true, false, cond, _||_}
 use mathlib.Core.List.{List, [], _∷_}
 use lib.Dec.{eqb}
+use Rattle.numbers.specs.Table.{Table}
 use Rattle.area.specs.Pair.{flag}
 use Rattle.area.specs.Layout as At
 use Rattle.area.specs.Frame.{wordNo}
@@ -54,10 +55,11 @@ clearedFrom i (b ∷ bytes) = cond (isInput (i / 4 + 1)) 0 b ∷ clearedFrom (su
 unfoldable pub withoutInput : List ℕ → List ℕ
 withoutInput bytes = clearedFrom 0 bytes
 
--- no word of it moves axis d; and where the frame is to stick there, and it is accepted, a stuck axis shows the list's end and stays stuck
+-- no word of it moves axis d; and where the frame is to stick there, and it is accepted, under whichever table, a stuck axis shows the
+-- list's end and stays stuck
 pub record ShowsWithoutInput (d : ℕ) : Type 0 where
   pub unmoved : (bytes : List ℕ) → isMovedByWords (withoutInput bytes) d ≡ false
-  pub on-end : (S : State) (bytes : List ℕ) → wordNo bytes (At.stickToEnd + d) ≡ 1 → flag (S .«scroll_stuck_to_end») d ≡ true
-      → isAccepted (stepAt S (withoutInput bytes)) ≡ true
-      → IsOnEnd S (withoutInput bytes) (stepAt S (withoutInput bytes) .state) d
-      × (flag (stepAt S (withoutInput bytes) .state .«scroll_stuck_to_end») d ≡ true)
+  pub on-end : (table : Table) (S : State) (bytes : List ℕ) → wordNo bytes (At.stickToEnd + d) ≡ 1 → flag (S .«scroll_stuck_to_end») d ≡ true
+      → isAccepted (stepAt table S (withoutInput bytes)) ≡ true
+      → IsOnEnd table S (withoutInput bytes) (stepAt table S (withoutInput bytes) .state) d
+      × (flag (stepAt table S (withoutInput bytes) .state .«scroll_stuck_to_end») d ≡ true)

@@ -1,6 +1,7 @@
 // The first half of a frame, before the content is known: the space, and how far drag, step or a target moves each axis.
 ghost use mathlib.Core.Path.{_≡_};
 ghost use Prim.Native.Nat.{_<_};
+ghost use Rattle.numbers.specs.Table.{tableOf};
 ghost use Rattle.area.specs.Frame.{Whole, frameOf};
 ghost use Rattle.area.specs.Begin as Spec;
 use crate::axis_physics::physics_of;
@@ -29,9 +30,9 @@ use numbers::Pos2;
 use numbers::Rect;
 
 // Uses what the last frame left in the state: bounds, flags and the rectangle to take hold of.
-pub fn begin(frame: &[u8], state: State) -> Prepared
+pub fn begin(frame: &[u8], state: State, table: &[u8]) -> Prepared
     requires { ⌜ Whole (now frame) ⌝ }
-    ensures { λ r. ⌜ r ≡ Spec.beginOf (frameOf (now (frame .entry))) state ⌝ }
+    ensures { λ r. ⌜ r ≡ Spec.beginOf (tableOf (now (table .entry))) (frameOf (now (frame .entry))) state ⌝ }
 {
     let shown = state.show_scroll;
     let x_space = space_of(frame, flag(shown, 1), 0, 1);
@@ -47,6 +48,7 @@ pub fn begin(frame: &[u8], state: State) -> Prepared
         x_space.inner_size,
         has_background_drag,
         hold,
+        table,
     );
     let y = begin_axis(
         frame,
@@ -56,6 +58,7 @@ pub fn begin(frame: &[u8], state: State) -> Prepared
         y_space.inner_size,
         has_background_drag,
         hold,
+        table,
     );
     Prepared {
         x_space,
@@ -97,9 +100,10 @@ fn begin_axis(
     inner_size: f32,
     background_drag: bool,
     hold: bool,
+    table: &[u8],
 ) -> AxisBegun
     requires { ⌜ Whole (now frame) × (d < 2) ⌝ }
-    ensures { λ r. ⌜ r ≡ Spec.begunFrom (frameOf (now (frame .entry))) d before motion «inner_size» «background_drag» hold ⌝ }
+    ensures { λ r. ⌜ r ≡ Spec.begunFrom (tableOf (now (table .entry))) (frameOf (now (frame .entry))) d before motion «inner_size» «background_drag» hold ⌝ }
 {
     let direction_enabled = settings_words::direction_enabled(frame, d);
     let dt = dt_of(host_words::stable_dt(frame));
@@ -121,7 +125,7 @@ fn begin_axis(
         dt,
         hold_overscroll: hold,
     };
-    let driven = drive(copy_of_motion(motion), physics, input);
+    let driven = drive(copy_of_motion(motion), physics, input, table);
     follow(driven, host_words::time(frame), dt)
 }
 

@@ -1,6 +1,7 @@
 // How a frame begins to move one axis: the host's explicit offset, then the hand on the content or the axis's own motion.
 ghost use mathlib.Core.Path.{_≡_};
 ghost use Prim.Native.Nat.{_<_};
+ghost use Rattle.numbers.specs.Table.{tableOf};
 ghost use Rattle.area.specs.Frame.{Whole, frameOf};
 ghost use Rattle.area.specs.Drive as Spec;
 use crate::frame::GivenOffset;
@@ -79,13 +80,13 @@ fn given_offset_or(given: GivenOffset, offset: f32) -> f32
 }
 
 // The content goes with the hand; let alone, it coasts or springs back.
-pub fn drive(motion: AxisMotion, physics: AxisPhysics, input: AxisInput) -> AxisBegun
-    ensures { λ r. ⌜ r ≡ Spec.drivenOf motion physics input ⌝ }
+pub fn drive(motion: AxisMotion, physics: AxisPhysics, input: AxisInput, table: &[u8]) -> AxisBegun
+    ensures { λ r. ⌜ r ≡ Spec.drivenOf (tableOf (now (table .entry))) motion physics input ⌝ }
 {
     if input.dragged {
         return drag_axis(motion, physics, input);
     }
-    step_axis(motion, physics, input)
+    step_axis(motion, physics, input, table)
 }
 
 // A drag ends a target under way and the sticking, but keeps the velocity.
@@ -117,12 +118,12 @@ fn drag_axis(motion: AxisMotion, physics: AxisPhysics, input: AxisInput) -> Axis
 }
 
 // Both axes step, also one that is not enabled.
-fn step_axis(motion: AxisMotion, physics: AxisPhysics, input: AxisInput) -> AxisBegun
-    ensures { λ r. ⌜ r ≡ Spec.steppedOf motion physics input ⌝ }
+fn step_axis(motion: AxisMotion, physics: AxisPhysics, input: AxisInput, table: &[u8]) -> AxisBegun
+    ensures { λ r. ⌜ r ≡ Spec.steppedOf (tableOf (now (table .entry))) motion physics input ⌝ }
 {
     let offset_target = motion.offset_target;
     let vel = released(input, motion.vel);
-    let stepped = physics.step(motion.offset, vel, input.dt, input.hold_overscroll);
+    let stepped = physics.step_by(motion.offset, vel, input.dt, input.hold_overscroll, table);
     let rubber_banding = physics.is_rubber_banding(stepped.offset);
     AxisBegun {
         motion: AxisMotion {

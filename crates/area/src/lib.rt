@@ -33,6 +33,7 @@ mod sweep;
 mod wheel_turn;
 
 pub use bar::HandleRect;
+pub use call::frame_by;
 pub use call::frame_call;
 pub use checks::frame_refusal;
 pub use checks::refusal_of;
@@ -62,6 +63,7 @@ pub use frame::Settings;
 pub use frame::Style;
 pub use frame::TargetRequest;
 pub use lent::frame_lent;
+pub use lent::frame_lent_by;
 pub use outcome::Answer;
 pub use outcome::Outcome;
 pub use replays::call_by;

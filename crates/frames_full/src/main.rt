@@ -5,6 +5,7 @@ mod print;
 mod print_outcome;
 mod print_state;
 
+use area::Answer;
 use area::State;
 use libc::STDIN_FILENO;
 use print::print_end;
@@ -20,6 +21,14 @@ pub struct Turn {
     pub more: bool,
 }
 
+// By T: no bytes stand for it.
+fn call(state: State, by: u8, bytes: &[u8]) -> Answer {
+    if by == 0 {
+        return area::frame_call(state, bytes);
+    }
+    area::call_by(state, by, bytes, b"")
+}
+
 fn run_one(state: State, by: u8) -> Turn {
     let mut bytes = [0u8; 416];
     let got = io::read_full(STDIN_FILENO, &mut bytes);
@@ -30,7 +39,7 @@ fn run_one(state: State, by: u8) -> Turn {
             more: false,
         };
     }
-    let answer = area::call_by(state, by, &bytes[..got]);
+    let answer = call(state, by, &bytes[..got]);
     let next = answer.state;
     let outcome = answer.outcome;
     print_refusal(outcome.refusal);

@@ -31,16 +31,16 @@ open-motion-requires : tie.Need-open-motion-requires
 open-motion-requires c κs = search needs
 
 begin-axis-requires : tie.Need-begin-axis-requires
-begin-axis-requires c κs = search (needs, c .before .before .before .before .before .before .before .before .before .before .before .pre)
+begin-axis-requires c κs = search (needs, c .before .before .before .before .before .before .before .before .before .before .before .before .pre)
 
 before-of-requires-2 : tie.Need-before-of-requires-2
 before-of-requires-2 c κs = search needs
 
 open-motion-requires-2 : tie.Need-open-motion-requires-2
-open-motion-requires-2 c κs = search (needs, c .before .before .before .before .before .before .before .before .before .before .before .before .before .pre)
+open-motion-requires-2 c κs = search (needs, c .before .before .before .before .before .before .before .before .before .before .before .before .before .before .pre)
 
 begin-axis-requires-2 : tie.Need-begin-axis-requires-2
-begin-axis-requires-2 c κs = search (needs, c .before .before .before .before .before .before .before .before .before .before .before .before .before .before .pre)
+begin-axis-requires-2 c κs = search (needs, c .before .before .before .before .before .before .before .before .before .before .before .before .before .before .before .pre)
 
 returns : tie.Need-returns
 unfolding beginOf preparedOf

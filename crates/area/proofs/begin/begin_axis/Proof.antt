@@ -37,7 +37,7 @@ drive-requires : tie.Need-drive-requires
 drive-requires c κs = search needs
 
 time-requires : tie.Need-time-requires
-time-requires c κs = search (needs, c .before .before .before .before .before .before .before .before .before .before .before .before .pre)
+time-requires c κs = search (needs, c .before .before .before .before .before .before .before .before .before .before .before .before .before .pre)
 
 follow-requires : tie.Need-follow-requires
 follow-requires c κs = search needs

@@ -1,27 +1,17 @@
 use borrow.Author.Needs.{needs}
-use Rattle.area.specs.Call.{callOf}
-use Rattle.area.proofs.CallLaws.{whole-of}
+use Rattle.numbers.specs.Table.{tableOf}
 use Rattle.area.proofs.call.frame_call.Statement.{statement}
 use Rattle.area.proofs.call.frame_call.Tie as tie
 
-refusal-of-requires : tie.Need-refusal-of-requires
-refusal-of-requires c κs = search needs
+slice-aggregate-frame-by : tie.Need-slice-aggregate-frame-by
+slice-aggregate-frame-by c = search needs
 
-run-requires : tie.Need-run-requires
-run-requires c κs =
-    let start = c .before .before .before in
-    whole-of (start .args .state) (start .args .bytes .now) _ (c .before .refusal-of .ensures) (c .if1 .taken)
+frame-by-requires : tie.Need-frame-by-requires
+frame-by-requires c κs = search needs
 
 returns : tie.Need-returns
-unfolding callOf
-returns c = rw (← c .before .before .refusal-of .ensures, c .before .if1 .taken, ← c .run .ensures)
-
-refused-requires : tie.Need-refused-requires
-refused-requires c κs = search needs
-
-returns-2 : tie.Need-returns-2
-unfolding callOf
-returns-2 c = rw (← c .before .before .refusal-of .ensures, c .before .if1 .left, ← c .refused .ensures)
+unfolding tableOf
+returns c = c .frame-by .ensures
 
 pub frame-call-spec : {M : Type 1} → statement M
-frame-call-spec = tie.close (tie.spec refusal-of-requires run-requires returns refused-requires returns-2)
+frame-call-spec = tie.close (tie.spec slice-aggregate-frame-by frame-by-requires returns)

@@ -46,7 +46,8 @@ use denote.Triple.Table.{entered, cited}
 use denote.Triple.Walked.{says, Stays, stay-ref, stay-none-slice, walkOf, goes-ref, goes-none-slice, Walks, ends-at, walked, walk-meets}
 use denote.Triple.Clauses.{ensured, lasts}
 use denote.Exit.{yes}
-use Rattle.area.specs.Call.{callOf}
+use Rattle.numbers.specs.Table.{tableAt}
+use Rattle.area.specs.Call.{callUnder}
 use Rattle.area.specs.declared.state.State.{State}
 use Rattle.area.specs.declared.outcome.Answer.{Answer}
 use Rattle.area.proofs.state.State as S
@@ -110,7 +111,7 @@ module _ {M : Type 1} (𝓤 : URA M) (H : Heap 𝓤) (A : Atoms 𝓤) (W : Given
       move ! (0 ∷ 2 ∷ []) $ fjoin ! $ move ! (3 ∷ 0 ∷ []) $ fjoin ! $ move ! (2 ∷ 0 ∷ []) $ join ! $ nothing ! $ move ! (1 ∷ 0 ∷ []) $ join ! $
       frame ! $ done !
 
-  exits : (r : Answer) (v : Val) → Is B.the-row r (v ∷ []) → r ≡ callOf h (y .now)
+  exits : (r : Answer) (v : Val) → Is B.the-row r (v ∷ []) → r ≡ callUnder tableAt h (y .now)
       → ent 𝓤
       (⋆ 𝓤 H A
       (‵ (fobs γ (S.the-row .coded .code (r .state))) ∷ ‵ (fbor κ (Body (mem S.the-row) b o γ)) ∷ ‵ (flft κ q) ∷
@@ -131,8 +132,8 @@ module _ {M : Type 1} (𝓤 : URA M) (H : Heap 𝓤) (A : Atoms 𝓤) (W : Given
   module _ (C : Calls 𝓤 H) (Λ : Loops 𝓤 H) (fm : FmC 𝓤 H (W .laws) C) (known : Triple 𝓤 (C #call) (Callee 𝓤 H A at-mem run)) where
     -- of the callee's `ensured`, the clause alone: it has no `&mut`, so what is said of last values is dropped
     said : (r : Answer)
-        → ent 𝓤 (ensured 𝓤 H A callee.ended (callee.clauses 𝓤 H A at-mem run) (κ′, tt) (h, (y, tt)) tt r) (fact 𝓤 (r ≡ callOf h (y .now)))
-    said r = exE 𝓤 _ (λ ws. snd∗ 𝓤 (sem 𝓤 H A (lasts callee.ended (κ′, tt) (h, (y, tt)) ws)) (fact 𝓤 (r ≡ callOf h (y .now))))
+        → ent 𝓤 (ensured 𝓤 H A callee.ended (callee.clauses 𝓤 H A at-mem run) (κ′, tt) (h, (y, tt)) tt r) (fact 𝓤 (r ≡ callUnder tableAt h (y .now)))
+    said r = exE 𝓤 _ (λ ws. snd∗ 𝓤 (sem 𝓤 H A (lasts callee.ended (κ′, tt) (h, (y, tt)) ws)) (fact 𝓤 (r ≡ callUnder tableAt h (y .now))))
 
     walk : Room u8 (length (y .now))
         → ent 𝓤 (onEntry 𝓤 H A lent.signature (κ, (κ′, tt)) (q, (q′, tt)) x at) (WpFn 𝓤 H C Λ code.function (vptr b o ∷ s ∷ []) Post)
@@ -161,8 +162,8 @@ module _ {M : Type 1} (𝓤 : URA M) (H : Heap 𝓤) (A : Atoms 𝓤) (W : Given
         (λ (r : Answer). ((‵ (flft κ′ q′) ⊛ ‵ ftrue) ⊛ ‵ (B.the-row .own r (v ∷ []))) ⊛ raw
         (ensured 𝓤 H A callee.ended (callee.clauses 𝓤 H A at-mem run) (κ′, tt) (h, (y, tt)) tt r)))) (id⊢ 𝓤 _) $
         await ! tt $ pick ! (λ r.
-        split ! $ move ! (1 ∷ []) $ use1 W (raw (fact 𝓤 (r ≡ callOf h (y .now)))) (said r) $ heard ! (r ≡ callOf h (y .now)) (λ e. split ! $
-        move ! (1 ∷ []) $
+        split ! $ move ! (1 ∷ []) $ use1 W (raw (fact 𝓤 (r ≡ callUnder tableAt h (y .now)))) (said r) $
+        heard ! (r ≡ callUnder tableAt h (y .now)) (λ e. split ! $ move ! (1 ∷ []) $
         -- [what the answer owns; the slice's token; the slice; the state's cell; the open borrow; obs; auth; _4; …; room for _3;
         -- …; _2; …; _1; …; room for _0; …]
         peeks ! B.the-row (Is B.the-row) (shows 𝓤 H A B.the-row) r (v ∷ []) (λ is.

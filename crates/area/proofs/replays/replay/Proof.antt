@@ -4,6 +4,7 @@ use native.Mathlib.Omega.{arith}
 use mathlib.Core.List.{List}
 use borrow.Author.Needs.{needs}
 use lib.ListN.{length}
+use Rattle.numbers.specs.Table.{tableOf}
 use Rattle.area.proofs.ReplayLaws.{Upto, begins, turns, finishes, same-length-at}
 use Rattle.area.proofs.replays.replay.Statement.{statement}
 use Rattle.area.proofs.replays.replay.Tie as tie
@@ -38,6 +39,9 @@ part-call-by-start c = search needs
 part-call-by-end : tie.Need-part-call-by-end Inv-loop μ-loop
 part-call-by-end c = search needs
 
+slice-aggregate-call-by : tie.Need-slice-aggregate-call-by Inv-loop μ-loop
+slice-aggregate-call-by c = search needs
+
 call-by-requires : tie.Need-call-by-requires Inv-loop μ-loop
 call-by-requires c κs = search needs
 
@@ -49,17 +53,18 @@ add-i c = omega arith
 
 loop-less : tie.Need-loop-less Inv-loop μ-loop
 loop-less c =
-    let part = c .before .before .before .before .before .before .before .before .frame-end .ensures in
+    let part = c .before .before .before .before .before .before .before .before .before .frame-end .ensures in
     omega (arith, part .low, part .high)
 
 loop-again : tie.Need-loop-again Inv-loop μ-loop
+unfolding tableOf
 loop-again c =
     let calls : List ℕ =
-    c .before .before .before .before .before .before .before .before .before .before .before .before .before .before .before .args .calls .now in
-    let at : ℕ = c .before .before .before .before .before .before .before .before .before .before .before .loop .at in
+    c .before .before .before .before .before .before .before .before .before .before .before .before .before .before .before .before .args .calls .now in
+    let at : ℕ = c .before .before .before .before .before .before .before .before .before .before .before .before .loop .at in
     let h : at < length calls = omega arith in
-    let upto = c .before .before .before .before .before .before .before .before .before .before .before .loop .inv .1 in
-    let part = c .before .before .before .before .before .before .before .before .frame-end .ensures in
+    let upto = c .before .before .before .before .before .before .before .before .before .before .before .before .loop .inv .1 in
+    let part = c .before .before .before .before .before .before .before .before .before .frame-end .ensures in
     let answers = c .before .before .before .before .before .before .call-by .ensures in
     let puts = c .before .before .before .put .ensures in
     (part .high, turns calls _ _ at _ _ _ _ _ answers puts h part upto)
@@ -86,6 +91,7 @@ replay-spec =
     sub-call-by
     part-call-by-start
     part-call-by-end
+    slice-aggregate-call-by
     call-by-requires
     put-requires
     add-i
