@@ -3,6 +3,7 @@ pub mod PartLaws
 pub mod RecordLaws
 pub mod ReadLaws
 pub mod BackLaws
+pub mod TableLaws
 pub mod HeldLaws
 pub mod TypedLaws
 pub mod CalledLaws

@@ -12,17 +12,18 @@ use lib.Ieee.{binary32}
 use lib.Ieee.Bits.{ofBits-fits}
 use Rattle.numbers.specs.F32.{zero}
 use Rattle.words.specs.Words.{bytesOf}
+use Rattle.numbers.specs.Table.{Table, tableOf}
 use Rattle.area.specs.State.{default}
 use Rattle.area.specs.Checks.{refusalOf}
-use Rattle.area.specs.Steps.{stepAt, answersFrom, stateFrom, acceptedFrom, isAccepted}
+use Rattle.area.specs.Steps.{Fed, stepAt, stepFed, answersFrom, stateFrom, acceptedFrom, isAccepted}
 use Rattle.area.specs.Listing.{listingWords, listing, ListingShown}
 use Rattle.area.specs.Lists as area
 use Rattle.area.specs.declared.state.State.{State}
 use Rattle.area.specs.declared.outcome.Answer.{Answer}
 use Rattle.area.proofs.CallLaws.{step-is-call, refusal-keeps, whole-of, accepted}
 use Rattle.host.specs.Record.{stateWords, outWords, stateOf, isDamaged, ArePair, IsHeld}
-use Rattle.host.specs.Calls.{FrameLeft, leftBy, frameOn, freshBytes}
-use Rattle.host.specs.Lists.{FrameOnSays, AreBytes, RecordCall, framesOf, AreFrames, RecordRun, ends, framed, acceptedOf}
+use Rattle.host.specs.Calls.{FrameLeft, leftBy, frameUnder, freshBytes}
+use Rattle.host.specs.Lists.{FrameOnSays, AreBytes, AreTable, RecordCall, fed, feedOf, AreCalls, RecordRun, ends, framed, acceptedOf}
 use Rattle.host.specs.Lists.{AnswersAlong, afterOn, RecordWhole, AllRecordLists}
 use Rattle.host.proofs.BackLaws.{written-is-read, written-is-undamaged}
 use Rattle.host.proofs.HeldLaws.{read-is-held}
@@ -35,18 +36,18 @@ IsRecord s = s ≡ bytesOf (stateWords (stateOf s))
 -- ---- one call
 
 -- a call on a record is the frame call on its state
-frame-is-step : (s frame out : List ℕ) → IsRecord s → frameOn s frame out ≡ leftBy (stepAt (stateOf s) frame) s out
-unfolding frameOn
-frame-is-step s frame out is = rw (ap isDamaged is ∙ written-is-undamaged (stateOf s), step-is-call (stateOf s) frame)
+frame-is-step : (table : Table) (s frame out : List ℕ) → IsRecord s → frameUnder table s frame out ≡ leftBy (stepAt table (stateOf s) frame) s out
+unfolding frameUnder
+frame-is-step table s frame out is = rw (ap isDamaged is ∙ written-is-undamaged (stateOf s), step-is-call table (stateOf s) frame)
 
 -- what an accepted frame reaches is read back as it is written
-accepted-is-read-back : (s frame : List ℕ) → AreBytes frame → isAccepted (stepAt (stateOf s) frame) ≡ true
-    → stateOf (bytesOf (stateWords (stepAt (stateOf s) frame .state))) ≡ stepAt (stateOf s) frame .state
-accepted-is-read-back s frame are a =
+accepted-is-read-back : (s frame table : List ℕ) → AreBytes frame → AreTable table → isAccepted (stepAt (tableOf table) (stateOf s) frame) ≡ true
+    → stateOf (bytesOf (stateWords (stepAt (tableOf table) (stateOf s) frame .state))) ≡ stepAt (tableOf table) (stateOf s) frame .state
+accepted-is-read-back s frame table are lent a =
     let S = stateOf s in
-    let count = whole-of S frame (refusalOf frame S) refl (eq-eqb (refusalOf frame S) 0 (accepted S frame a .unrefused)) in
-    subst (λ (t : Answer). stateOf (bytesOf (stateWords (t .state))) ≡ t .state) (sym (step-is-call S frame))
-    (call-is-read-back S (read-is-held s) frame are count)
+    let count = whole-of S frame (refusalOf frame S) refl (eq-eqb (refusalOf frame S) 0 (accepted (tableOf table) S frame a .unrefused)) in
+    subst (λ (t : Answer). stateOf (bytesOf (stateWords (t .state))) ≡ t .state) (sym (step-is-call (tableOf table) S frame))
+    (call-is-read-back S (read-is-held s) frame table are lent count)
 
 -- with whether the step accepts
 left-stands : (test : Bool) (a : Answer) (s out : List ℕ)
@@ -59,16 +60,18 @@ left-stands true a s out read kept is = (read refl, ap (λ (S : State). bytesOf 
 left-stands false a s out read kept is = (sym (kept refl), is)
 
 record One (s : List ℕ) (c : RecordCall) (r : FrameLeft) : Type 0 where
-  pub answers : r ≡ leftBy (stepAt (stateOf s) (c .frame)) s (c .out)
-  pub stands : stateOf (r .state) ≡ stepAt (stateOf s) (c .frame) .state
+  pub answers : r ≡ leftBy (stepFed (stateOf s) (fed c)) s (c .out)
+  pub stands : stateOf (r .state) ≡ stepFed (stateOf s) (fed c) .state
   pub is-record : IsRecord (r .state)
 
-one : (s : List ℕ) (c : RecordCall) (r : FrameLeft) → IsRecord s → AreBytes (c .frame) → FrameOnSays s (c .frame) (c .out) r → One s c r
-one s c r is are says =
-    let S = stateOf s in
-    let a = stepAt S (c .frame) in
-    let same : r ≡ leftBy a s (c .out) = says ∙ frame-is-step s (c .frame) (c .out) is in
-    let left = left-stands (isAccepted a) a s (c .out) (accepted-is-read-back s (c .frame) are) (refusal-keeps S (c .frame)) is in
+one : (s : List ℕ) (c : RecordCall) (r : FrameLeft) → IsRecord s → AreBytes (c .frame) → AreTable (c .table)
+    → FrameOnSays (c .table) s (c .frame) (c .out) r → One s c r
+one s c r is are lent says =
+    let table = tableOf (c .table) in
+    let a = stepFed (stateOf s) (fed c) in
+    let same : r ≡ leftBy a s (c .out) = says ∙ frame-is-step table s (c .frame) (c .out) is in
+    let left =
+    left-stands (isAccepted a) a s (c .out) (accepted-is-read-back s (c .frame) (c .table) are lent) (refusal-keeps table (stateOf s) (c .frame)) is in
     record {
       answers = same;
       stands = ap (λ (l : FrameLeft). stateOf (l .state)) same ∙ left .0;
@@ -78,32 +81,32 @@ one s c r is are says =
 -- ---- a list of calls
 
 record Same (s : List ℕ) (calls : List RecordCall) (answers : List FrameLeft) (t : List ℕ) : Type 0 where
-  pub answers-same : AnswersAlong s calls (answersFrom (stateOf s) (framesOf calls)) answers
-  pub state-same : stateOf t ≡ stateFrom (stateOf s) (framesOf calls)
+  pub answers-same : AnswersAlong s calls (answersFrom (stateOf s) (feedOf calls)) answers
+  pub state-same : stateOf t ≡ stateFrom (stateOf s) (feedOf calls)
   pub is-record : IsRecord t
 
 same : {s : List ℕ} {calls : List RecordCall} {answers : List FrameLeft} {t : List ℕ} → RecordRun s calls answers t → IsRecord s → Same s calls answers t
 same ends is = record { answers-same = tt; state-same = refl; is-record = is }
-same (framed {s} {c} {r} {calls} {answers} {t} are says run) is =
-    let o = one s c r is are says in
+same (framed {s} {c} {r} {calls} {answers} {t} are lent says run) is =
+    let o = one s c r is are lent says in
     let rest = same run (o .is-record) in
     record {
       answers-same = (
         o .answers,
         o .stands,
-        subst (λ (S : State). AnswersAlong (r .state) calls (answersFrom S (framesOf calls)) answers) (o .stands) (rest .answers-same),
+        subst (λ (S : State). AnswersAlong (r .state) calls (answersFrom S (feedOf calls)) answers) (o .stands) (rest .answers-same),
       );
-      state-same = subst (λ (S : State). stateOf t ≡ stateFrom S (framesOf calls)) (o .stands) (rest .state-same);
+      state-same = subst (λ (S : State). stateOf t ≡ stateFrom S (feedOf calls)) (o .stands) (rest .state-same);
       is-record = rest .is-record;
     }
 
 -- each list has a run
-pub run-of : (s : List ℕ) (calls : List RecordCall) → AreFrames calls → (answers : List FrameLeft) × (t : List ℕ) × RecordRun s calls answers t
+pub run-of : (s : List ℕ) (calls : List RecordCall) → AreCalls calls → (answers : List FrameLeft) × (t : List ℕ) × RecordRun s calls answers t
 run-of s [] are = ([], s, ends)
 run-of s (c ∷ calls) are =
-    let r = frameOn s (c .frame) (c .out) in
-    let rest = run-of (r .state) calls (are .1) in
-    (r ∷ rest .0, rest .1, framed (are .0) refl (rest .2))
+    let r = frameUnder (tableOf (c .table)) s (c .frame) (c .out) in
+    let rest = run-of (r .state) calls (are .2) in
+    (r ∷ rest .0, rest .1, framed (are .0) (are .1) refl (rest .2))
 
 -- ---- whether a call is accepted
 refusal-told : (test : Bool) (x : ℕ) (l : FrameLeft) → eqb x 0 ≡ test → l .refusal ≡ 0 → (m : FrameLeft) → m .refusal ≡ x → cond test l m .refusal ≡ x
@@ -115,30 +118,31 @@ same-refusal a s out r e =
     ap (λ (l : FrameLeft). l .refusal) e ∙ refusal-told (eqb (a .outcome .refusal) 0) (a .outcome .refusal) _ refl refl _ refl
 
 -- ---- the accepted calls alone
-accepted-frames : (test : Bool) (c : RecordCall) (calls : List RecordCall) (frames : List (List ℕ)) → framesOf calls ≡ frames
-    → framesOf (cond test (c ∷ calls) calls) ≡ cond test (c .frame ∷ frames) frames
-accepted-frames true c calls frames e = λ i. c .frame ∷ e i
+accepted-frames : (test : Bool) (c : RecordCall) (calls : List RecordCall) (frames : List Fed) → feedOf calls ≡ frames
+    → feedOf (cond test (c ∷ calls) calls) ≡ cond test (fed c ∷ frames) frames
+accepted-frames true c calls frames e = λ i. fed c ∷ e i
 accepted-frames false c calls frames e = e
 
-accepted-same : (s : List ℕ) (S : State) (calls : List RecordCall) (answers : List FrameLeft) → AnswersAlong s calls (answersFrom S (framesOf calls)) answers
-    → framesOf (acceptedOf calls answers) ≡ acceptedFrom S (framesOf calls)
+accepted-same : (s : List ℕ) (S : State) (calls : List RecordCall) (answers : List FrameLeft) → AnswersAlong s calls (answersFrom S (feedOf calls)) answers
+    → feedOf (acceptedOf calls answers) ≡ acceptedFrom S (feedOf calls)
 accepted-same s S [] [] along = refl
 accepted-same s S [] (r ∷ answers) along = absurd along
 accepted-same s S (c ∷ calls) [] along = absurd along
 accepted-same s S (c ∷ calls) (r ∷ answers) along =
-    let a = stepAt S (c .frame) in
-    ap (λ (n : ℕ). framesOf (cond (eqb n 0) (c ∷ acceptedOf calls answers) (acceptedOf calls answers))) (same-refusal a s (c .out) r (along .0))
-    ∙ accepted-frames (isAccepted a) c (acceptedOf calls answers) (acceptedFrom (a .state) (framesOf calls))
+    let a = stepFed S (fed c) in
+    ap (λ (n : ℕ). feedOf (cond (eqb n 0) (c ∷ acceptedOf calls answers) (acceptedOf calls answers))) (same-refusal a s (c .out) r (along .0))
+    ∙ accepted-frames (isAccepted a) c (acceptedOf calls answers) (acceptedFrom (a .state) (feedOf calls))
     (accepted-same (r .state) (a .state) calls answers (along .2))
 
-chosen-are : (test : Bool) (c : RecordCall) (calls : List RecordCall) → AreBytes (c .frame) → AreFrames calls → AreFrames (cond test (c ∷ calls) calls)
-chosen-are true c calls are rest = (are, rest)
-chosen-are false c calls are rest = rest
+chosen-are : (test : Bool) (c : RecordCall) (calls : List RecordCall) → AreBytes (c .frame) → AreTable (c .table) → AreCalls calls
+    → AreCalls (cond test (c ∷ calls) calls)
+chosen-are true c calls are lent rest = (are, lent, rest)
+chosen-are false c calls are lent rest = rest
 
-accepted-are : {s : List ℕ} {calls : List RecordCall} {answers : List FrameLeft} {t : List ℕ} → RecordRun s calls answers t → AreFrames (acceptedOf calls answers)
+accepted-are : {s : List ℕ} {calls : List RecordCall} {answers : List FrameLeft} {t : List ℕ} → RecordRun s calls answers t → AreCalls (acceptedOf calls answers)
 accepted-are ends = tt
-accepted-are (framed {s} {c} {r} {calls} {answers} {t} are says run) =
-    chosen-are (eqb (r .refusal) 0) c (acceptedOf calls answers) are (accepted-are run)
+accepted-are (framed {s} {c} {r} {calls} {answers} {t} are lent says run) =
+    chosen-are (eqb (r .refusal) 0) c (acceptedOf calls answers) are lent (accepted-are run)
 
 -- ---- what the calls show is what the steps show
 after-same : (s : List ℕ) (calls : List RecordCall) (steps : List Answer) (answers : List FrameLeft) → AnswersAlong s calls steps answers
@@ -155,18 +159,18 @@ after-same s (c ∷ calls) (a ∷ steps) (r ∷ answers) along =
 
 -- ---- the claim, of a record from whose state every list of calls goes as demand 3 says
 abbrev called : List RecordCall → List area.Call
-called calls = map (λ (c : RecordCall). area.byValue (c .frame)) calls
+called calls = map (λ (c : RecordCall). area.byValue (tableOf (c .table)) (c .frame)) calls
 
-same-frames : (calls : List RecordCall) → map area.bytesOf (called calls) ≡ framesOf calls
+same-frames : (calls : List RecordCall) → map area.fedOf (called calls) ≡ feedOf calls
 same-frames [] = refl
-same-frames (c ∷ calls) = λ i. c .frame ∷ same-frames calls i
+same-frames (c ∷ calls) = λ i. fed c ∷ same-frames calls i
 
 -- the steps on the frames
-record Steps (S : State) (frames : List (List ℕ)) : Type 0 where
+record Steps (S : State) (frames : List Fed) : Type 0 where
   pub alone : stateFrom S (acceptedFrom S frames) ≡ stateFrom S frames
   pub distances : area.DistancesAlong S frames (map area.afterOf (answersFrom S frames))
 
-steps-of : (S : State) → area.AllLists S → (calls : List RecordCall) → Steps S (framesOf calls)
+steps-of : (S : State) → area.AllLists S → (calls : List RecordCall) → Steps S (feedOf calls)
 steps-of S all calls =
     let w = all .whole (called calls) _ _ (all .has-run (called calls)) in
     subst (Steps S) (same-frames calls) (record { alone = w .accepted-alone; distances = w .distances })
@@ -175,7 +179,7 @@ whole-from : (s : List ℕ) → IsRecord s → area.AllLists (stateOf s) → (ca
     → RecordRun s calls answers t → RecordWhole s calls answers t
 whole-from s is all calls answers t run =
     let S = stateOf s in
-    let frames = framesOf calls in
+    let frames = feedOf calls in
     let steps = steps-of S all calls in
     let goes = same run is in
     let along = goes .answers-same in
@@ -240,5 +244,5 @@ pub all-lists : area.AllLists default → AllRecordLists freshBytes
 all-lists all = record {
   whole = whole-from freshBytes fresh-is-record (subst area.AllLists (sym fresh-stands) all);
   has-run = run-of freshBytes;
-  listing-shown = (listing-are, subst ListingShown (sym fresh-stands) (all .listing-shown));
+  listing-shown = (listing-are, λ table. subst (ListingShown table) (sym fresh-stands) (all .listing-shown table));
 }

@@ -1,11 +1,11 @@
 -- The calls of the library: what each answers, and what each leaves in the bytes that it is lent.
-use Prim.Native.Nat.{ℕ, _+_}
-use mathlib.Core.Bool.{Bool, true, false, cond, not, _||_}
-use mathlib.Core.List.{List, [], _∷_, _++_}
+use Prim.Native.Nat.{ℕ}
+use mathlib.Core.Bool.{Bool, cond, _||_}
+use mathlib.Core.List.{List, [], _∷_}
 use lib.Dec.{eqb, ltb}
-use lib.Ieee.{Float}
 use Rattle.words.specs.Words.{bytesOf}
-use Rattle.axis.specs.Call.{dragCallOf, stepCallOf, wheelCallOf}
+use Rattle.numbers.specs.Table.{Table, tableAt}
+use Rattle.axis.specs.Call.{dragCallOf, stepCallUnder, wheelCallOf}
 use Rattle.axis.specs.declared.physics.AxisPhysics.{AxisPhysics}
 use Rattle.axis.specs.declared.wheel.WheelScroll.{WheelScroll}
 use Rattle.axis.specs.declared.call.DragAnswer.{DragAnswer}
@@ -14,7 +14,7 @@ use Rattle.axis.specs.declared.call.WheelAnswer.{WheelAnswer}
 use Rattle.area.specs.State.{default, clampedOffset}
 use Rattle.area.specs.Frame.{wordNo, numberNo, flagNo, sourceNo}
 use Rattle.area.specs.Checks.{frameRefusal}
-use Rattle.area.specs.Call.{callOf}
+use Rattle.area.specs.Call.{callUnder}
 use Rattle.area.specs.declared.outcome.Answer.{Answer}
 use Rattle.host.specs.Record.{numberWord, numberWords, flagWord, stateWords, outWords, stateOf, isDamaged, isNoFlag}
 
@@ -22,7 +22,7 @@ use Rattle.host.specs.Record.{numberWord, numberWords, flagWord, stateWo
 unfoldable pub freshBytes : List ℕ
 freshBytes = bytesOf (stateWords default)
 
--- ---- strakobud_frame
+-- ---- strakobud_frame_by, and strakobud_frame
 pub record FrameLeft : Type 0 where
   pub refusal : ℕ
   pub state : List ℕ
@@ -39,11 +39,16 @@ leftBy a state out =
 abbrev pub damagedRefusal : List ℕ → ℕ
 damagedRefusal frame = cond (eqb (frameRefusal frame) 0) 6 (frameRefusal frame)
 
-unfoldable pub frameOn : List ℕ → List ℕ → List ℕ → FrameLeft
-frameOn state frame out =
+-- under a table
+unfoldable pub frameUnder : Table → List ℕ → List ℕ → List ℕ → FrameLeft
+frameUnder table state frame out =
     cond (isDamaged state)
     (record { refusal = damagedRefusal frame; state = state; out = out })
-    (leftBy (callOf (stateOf state) frame) state out)
+    (leftBy (callUnder table (stateOf state) frame) state out)
+
+-- T serves where no table is given
+abbrev pub frameOn : List ℕ → List ℕ → List ℕ → FrameLeft
+frameOn = frameUnder tableAt
 
 -- ---- the other calls: an answer, and what out holds then
 pub record Left : Type 0 where
@@ -79,7 +84,7 @@ dragOn call =
     (record { refusal = 2; out = bytesOf (wordNo call 7 ∷ []) })
     (dragLeft (dragCallOf (axisOf call) (numberNo call 7) (numberNo call 8)) call)
 
--- strakobud_step: "for step offset, velocity, dt, hold"; out: "offset, velocity, answer"
+-- strakobud_step_by, and strakobud_step: "for step offset, velocity, dt, hold"; out: "offset, velocity, answer"
 abbrev pub stepGiven : List ℕ → ℕ → Left
 stepGiven call refusal = record { refusal = refusal; out = bytesOf (wordNo call 7 ∷ wordNo call 8 ∷ 0 ∷ []) }
 
@@ -89,11 +94,15 @@ stepLeft a call =
     (record { refusal = 0; out = bytesOf (numberWord (a .stepped .offset) ∷ numberWord (a .stepped .vel) ∷ flagWord (a .stepped .moving) ∷ []) })
     (stepGiven call (a .refusal))
 
-unfoldable pub stepOn : List ℕ → Left
-stepOn call =
+-- under a table
+unfoldable pub stepUnder : Table → List ℕ → Left
+stepUnder table call =
     cond (isNoFlag call 6 || isNoFlag call 10)
     (stepGiven call 2)
-    (stepLeft (stepCallOf (axisOf call) (numberNo call 7) (numberNo call 8) (numberNo call 9) (flagNo call 10)) call)
+    (stepLeft (stepCallUnder table (axisOf call) (numberNo call 7) (numberNo call 8) (numberNo call 9) (flagNo call 10)) call)
+
+abbrev pub stepOn : List ℕ → Left
+stepOn = stepUnder tableAt
 
 -- strakobud_wheel: "for wheel offset, velocity, delta, source, can_chain_to_parent, dt, bounced"; out: "offset, velocity, bounced, answer"
 unfoldable pub scrollOf : List ℕ → WheelScroll

@@ -1,5 +1,6 @@
 // The calls on a state.
 ghost use mathlib.Core.Path.{_≡_};
+ghost use Rattle.numbers.specs.Table.{tableOf};
 ghost use Rattle.host.specs.Calls as Spec;
 ghost use Rattle.host.specs.Lists.{AllRecordLists};
 use crate::read::is_damaged;
@@ -9,7 +10,7 @@ use crate::write::put_outcome;
 use crate::write::put_state;
 use area::State;
 
-// A fresh state's record. Demand 3 holds of every list of `strakobud_frame` calls that begins on it.
+// A fresh state's record. Demand 3 holds of every list of `strakobud_frame` and `strakobud_frame_by` calls that begins on it.
 #[no_mangle]
 pub extern "C" fn strakobud_fresh(state: &mut [u8; 148])
     ensures starts { λ _. ⌜ now (state .exit) ≡ Spec.freshBytes ⌝ }
@@ -18,15 +19,38 @@ pub extern "C" fn strakobud_fresh(state: &mut [u8; 148])
     put_state(state, State::default());
 }
 
+// By table T.
 #[no_mangle]
 pub extern "C" fn strakobud_frame(state: &mut [u8; 148], frame: &[u8], out: &mut [u8; 100]) -> u32
     ensures { λ r. ⌜ record { refusal = r; state = now (state .exit); out = now (out .exit) }
         ≡ Spec.frameOn (now (state .entry)) (now (frame .entry)) (now (out .entry)) ⌝ }
 {
+    let none: [u8; 0] = [];
+    frame_under(state, frame, &none, out)
+}
+
+#[no_mangle]
+pub extern "C" fn strakobud_frame_by(
+    state: &mut [u8; 148],
+    frame: &[u8],
+    table: &[u8; 8200],
+    out: &mut [u8; 100],
+) -> u32
+    ensures { λ r. ⌜ record { refusal = r; state = now (state .exit); out = now (out .exit) }
+        ≡ Spec.frameUnder (tableOf (now (table .entry))) (now (state .entry)) (now (frame .entry)) (now (out .entry)) ⌝ }
+{
+    frame_under(state, frame, table, out)
+}
+
+// By the table that the bytes stand for.
+fn frame_under(state: &mut [u8; 148], frame: &[u8], table: &[u8], out: &mut [u8; 100]) -> u32
+    ensures { λ r. ⌜ record { refusal = r; state = now (state .exit); out = now (out .exit) }
+        ≡ Spec.frameUnder (tableOf (now (table .entry))) (now (state .entry)) (now (frame .entry)) (now (out .entry)) ⌝ }
+{
     if is_damaged(state) {
         return damaged_refusal(frame);
     }
-    let a = area::frame_call(state_of(state), frame);
+    let a = area::frame_by(state_of(state), frame, table);
     if a.outcome.refusal == 0 {
         put_state(state, a.state);
         put_outcome(out, a.outcome);

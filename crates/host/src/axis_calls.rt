@@ -1,6 +1,7 @@
 // The calls on one axis by itself. On a refusal out holds what was given, with the answer 0.
 ghost use mathlib.Core.Path.{_≡_};
-ghost use Rattle.axis.specs.Call.{dragCallOf, stepCallOf, wheelCallOf};
+ghost use Rattle.numbers.specs.Table.{tableOf};
+ghost use Rattle.axis.specs.Call.{dragCallOf, stepCallUnder, wheelCallOf};
 ghost use Rattle.area.specs.Frame.{Holds, numberNo, flagNo};
 ghost use Rattle.host.specs.Calls as Spec;
 use crate::read::is_no_flag;
@@ -74,16 +75,32 @@ fn drag_of(call: &[u8]) -> DragAnswer
     axis::call::drag(axis_of(call), number_at(call, 7), number_at(call, 8))
 }
 
+// By table T.
 #[no_mangle]
 pub extern "C" fn strakobud_step(call: &[u8; 40], out: &mut [u8; 12]) -> u32
     ensures { λ r. ⌜ record { refusal = r; out = now (out .exit) } ≡ Spec.stepOn (now (call .entry)) ⌝ }
+{
+    let none: [u8; 0] = [];
+    step_under(call, &none, out)
+}
+
+#[no_mangle]
+pub extern "C" fn strakobud_step_by(call: &[u8; 40], table: &[u8; 8200], out: &mut [u8; 12]) -> u32
+    ensures { λ r. ⌜ record { refusal = r; out = now (out .exit) } ≡ Spec.stepUnder (tableOf (now (table .entry))) (now (call .entry)) ⌝ }
+{
+    step_under(call, table, out)
+}
+
+// By the table that the bytes stand for.
+fn step_under(call: &[u8; 40], table: &[u8], out: &mut [u8; 12]) -> u32
+    ensures { λ r. ⌜ record { refusal = r; out = now (out .exit) } ≡ Spec.stepUnder (tableOf (now (table .entry))) (now (call .entry)) ⌝ }
 {
     let c: &[u8] = call;
     words::put(out, 0, &[word_at(c, 7), word_at(c, 8), 0]);
     if is_no_flags(c, 6, 10) {
         return 2;
     }
-    let a = step_of(c);
+    let a = step_of(c, table);
     if a.refusal == 0 {
         words::put(
             out,
@@ -99,17 +116,18 @@ pub extern "C" fn strakobud_step(call: &[u8; 40], out: &mut [u8; 12]) -> u32
     a.refusal
 }
 
-fn step_of(call: &[u8]) -> StepAnswer
+fn step_of(call: &[u8], table: &[u8]) -> StepAnswer
     requires { ⌜ Holds (now call) 1 9 ⌝ }
-    ensures { λ r. ⌜ r ≡ stepCallOf (Spec.axisOf (now (call .entry))) (numberNo (now (call .entry)) 7) (numberNo (now (call .entry)) 8)
+    ensures { λ r. ⌜ r ≡ stepCallUnder (tableOf (now (table .entry))) (Spec.axisOf (now (call .entry))) (numberNo (now (call .entry)) 7) (numberNo (now (call .entry)) 8)
         (numberNo (now (call .entry)) 9) (flagNo (now (call .entry)) 10) ⌝ }
 {
-    axis::call::step(
+    axis::call::step_by(
         axis_of(call),
         number_at(call, 7),
         number_at(call, 8),
         number_at(call, 9),
         flag_at(call, 10),
+        table,
     )
 }
 

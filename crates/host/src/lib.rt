@@ -2,11 +2,16 @@
 mod area_calls;
 mod axis_calls;
 mod read;
+mod table_calls;
 mod write;
 
 pub use area_calls::strakobud_frame;
+pub use area_calls::strakobud_frame_by;
 pub use area_calls::strakobud_fresh;
 pub use area_calls::strakobud_offset;
 pub use axis_calls::strakobud_drag;
 pub use axis_calls::strakobud_step;
+pub use axis_calls::strakobud_step_by;
 pub use axis_calls::strakobud_wheel;
+pub use table_calls::strakobud_table_load;
+pub use table_calls::strakobud_table_t;

@@ -17,8 +17,8 @@ number-at-requires-3 c κs = search needs
 flag-at-requires : tie.Need-flag-at-requires
 flag-at-requires c κs = search needs
 
-step-requires : tie.Need-step-requires
-step-requires c κs = search needs
+step-by-requires : tie.Need-step-by-requires
+step-by-requires c κs = search needs
 
 returns : tie.Need-returns
 returns c =
@@ -28,7 +28,7 @@ returns c =
       ← c .before .before .before .number-at2 .ensures,
       ← c .before .before .number-at3 .ensures,
       ← c .before .flag-at .ensures,
-      ← c .step .ensures,
+      ← c .step-by .ensures,
     )
 
 pub step-of-spec : {M : Type 1} → statement M
@@ -40,5 +40,5 @@ step-of-spec =
     number-at-requires-2
     number-at-requires-3
     flag-at-requires
-    step-requires
+    step-by-requires
     returns)
