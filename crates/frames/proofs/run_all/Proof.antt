@@ -4,10 +4,10 @@ use Rattle.frames.proofs.run_all.Statement.{statement}
 use Rattle.frames.proofs.run_all.Tie as tie
 
 abbrev Inv-loop : tie.InvT-loop
-Inv-loop turns₀ turn₀ turns turn = Unit {0}
+Inv-loop table turns₀ turn₀ turns turn = Unit {0}
 
 abbrev μ-loop : tie.MeasureT-loop
-μ-loop turns₀ turn₀ turns turn = turns
+μ-loop table turns₀ turn₀ turns turn = turns
 
 default-requires : tie.Need-default-requires Inv-loop μ-loop
 default-requires c κs = tt
