@@ -6,13 +6,26 @@ pub type StateBytes = [u8; 148];
 /// The record of what a frame puts out besides the state.
 pub type OutBytes = [u8; 100];
 
+/// A maker's table, as loaded.
+pub type TableBytes = [u8; 8200];
+
 mod c {
     extern "C" {
         pub fn strakobud_fresh(state: *mut u8);
         pub fn strakobud_frame(state: *mut u8, frame: *const u8, len: usize, out: *mut u8) -> u32;
+        pub fn strakobud_frame_by(
+            state: *mut u8,
+            frame: *const u8,
+            len: usize,
+            table: *const u8,
+            out: *mut u8,
+        ) -> u32;
+        pub fn strakobud_table_load(bytes: *const u8, len: usize, table: *mut u8) -> u32;
+        pub fn strakobud_table_t(table: *mut u8);
         pub fn strakobud_offset(state: *const u8, out: *mut u8) -> u32;
         pub fn strakobud_drag(call: *const u8, out: *mut u8) -> u32;
         pub fn strakobud_step(call: *const u8, out: *mut u8) -> u32;
+        pub fn strakobud_step_by(call: *const u8, table: *const u8, out: *mut u8) -> u32;
         pub fn strakobud_wheel(call: *const u8, out: *mut u8) -> u32;
     }
 }
@@ -28,6 +41,24 @@ pub fn frame(state: &mut StateBytes, frame: &[u8], out: &mut OutBytes) -> u32 {
     unsafe { c::strakobud_frame(state.as_mut_ptr(), bytes, len, out.as_mut_ptr()) }
 }
 
+pub fn frame_by(
+    state: &mut StateBytes,
+    frame: &[u8],
+    table: &TableBytes,
+    out: &mut OutBytes,
+) -> u32 {
+    let (bytes, len, table) = (frame.as_ptr(), frame.len(), table.as_ptr());
+    unsafe { c::strakobud_frame_by(state.as_mut_ptr(), bytes, len, table, out.as_mut_ptr()) }
+}
+
+pub fn table_load(bytes: &[u8], table: &mut TableBytes) -> u32 {
+    unsafe { c::strakobud_table_load(bytes.as_ptr(), bytes.len(), table.as_mut_ptr()) }
+}
+
+pub fn table_t(table: &mut TableBytes) {
+    unsafe { c::strakobud_table_t(table.as_mut_ptr()) }
+}
+
 pub fn offset(state: &StateBytes, out: &mut [u8; 8]) -> u32 {
     unsafe { c::strakobud_offset(state.as_ptr(), out.as_mut_ptr()) }
 }
@@ -38,6 +69,10 @@ pub fn drag(call: &[u8; 32], out: &mut [u8; 4]) -> u32 {
 
 pub fn step(call: &[u8; 40], out: &mut [u8; 12]) -> u32 {
     unsafe { c::strakobud_step(call.as_ptr(), out.as_mut_ptr()) }
+}
+
+pub fn step_by(call: &[u8; 40], table: &TableBytes, out: &mut [u8; 12]) -> u32 {
+    unsafe { c::strakobud_step_by(call.as_ptr(), table.as_ptr(), out.as_mut_ptr()) }
 }
 
 pub fn wheel(call: &[u8; 52], out: &mut [u8; 16]) -> u32 {

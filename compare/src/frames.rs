@@ -6,12 +6,13 @@ use oracle::frame_vectors::random_state;
 use oracle::host_calls;
 use oracle::random::Random;
 use oracle::records::{write_state, OutBytes, StateBytes};
-use oracle::scenes::scene_list;
+use oracle::scenes::{fling_list, scene_list};
 
+use crate::tables::{name_of, Lent, Pool, Serving};
 use crate::tally::{Part, Tally};
 
 /// Frames in one list of scenes.
-const LIST: usize = 20_000;
+pub const LIST: usize = 20_000;
 
 /// What a buffer holds that no call has written.
 const UNWRITTEN: u8 = 0xaa;
@@ -21,16 +22,16 @@ const FLAGS: [usize; 15] = [4, 10, 16, 17, 18, 19, 20, 21, 24, 26, 28, 29, 30, 3
 
 /// The buffers of one side.
 #[derive(Clone, Copy, PartialEq, Debug)]
-struct Side {
-    state: StateBytes,
+pub struct Side {
+    pub state: StateBytes,
     out: OutBytes,
     offset: [u8; 8],
-    refusal: u32,
+    pub refusal: u32,
     offset_refusal: u32,
 }
 
 impl Side {
-    fn on(state: StateBytes) -> Side {
+    pub fn on(state: StateBytes) -> Side {
         Side {
             state,
             out: [UNWRITTEN; 100],
@@ -40,55 +41,86 @@ impl Side {
         }
     }
 
-    fn library(mut self, frame: &[u8]) -> Side {
-        self.refusal = strakobud::frame(&mut self.state, frame, &mut self.out);
+    pub fn library(mut self, frame: &[u8], table: Option<&Lent>) -> Side {
+        let (state, out) = (&mut self.state, &mut self.out);
+        self.refusal = match table {
+            None => strakobud::frame(state, frame, out),
+            Some(lent) => strakobud::frame_by(state, frame, &lent.bytes, out),
+        };
         self.offset_refusal = strakobud::offset(&self.state, &mut self.offset);
         self
     }
 
-    fn rust(mut self, frame: &[u8]) -> Side {
-        self.refusal = host_calls::frame(&mut self.state, frame, &mut self.out);
+    fn rust(mut self, frame: &[u8], table: Option<&Lent>) -> Side {
+        let (state, out) = (&mut self.state, &mut self.out);
+        self.refusal = match table {
+            None => host_calls::frame(state, frame, out),
+            Some(lent) => host_calls::frame_by(state, frame, lent.entries, out),
+        };
         self.offset_refusal = host_calls::offset(&self.state, &mut self.offset);
         self
     }
 }
 
-/// A list of scenes, made in a thread of its own: the branches that it meets while it is made do not count.
-fn scenes(seed: u64, count: usize) -> Vec<Vec<u8>> {
-    let made = thread::spawn(move || scene_list(seed, count)).join();
+/// A list, made in a thread of its own: the branches that it meets while it is made do not count.
+fn made(list: fn(u64, usize) -> Vec<Vec<u8>>, seed: u64, count: usize) -> Vec<Vec<u8>> {
+    let made = thread::spawn(move || list(seed, count)).join();
     made.expect("the list is made")
 }
 
+/// A list of scenes.
+pub fn scenes(seed: u64, count: usize) -> Vec<Vec<u8>> {
+    made(scene_list, seed, count)
+}
+
+/// A list of scenes; under tables every other one is of flings, where they show.
+fn list_for(pool: Option<&Pool>, seed: u64, count: usize) -> Vec<Vec<u8>> {
+    let is_even = (seed / LIST as u64).is_multiple_of(2);
+    match pool {
+        Some(_) if is_even => made(fling_list, seed, count),
+        _ => scenes(seed, count),
+    }
+}
+
 /// Lists of scenes, each from a fresh state; after a difference both sides go on from the oracle's state.
-pub fn from_fresh_states(tally: &mut Tally, seed: u64, count: u64) {
+pub fn from_fresh_states(tally: &mut Tally, pool: Option<&Pool>, seed: u64, count: u64) {
+    let part = pool.map_or(Part::Fresh, |_| Part::FreshUnder);
+    let mut serving = Serving::new(pool, seed);
     let mut done = 0;
     while done < count {
         let list_seed = seed.wrapping_add(done);
-        let list = scenes(list_seed, LIST.min((count - done) as usize));
-        let (mut fresh, mut rust_fresh) = ([UNWRITTEN; 148], [UNWRITTEN; 148]);
-        strakobud::fresh(&mut fresh);
-        host_calls::fresh(&mut rust_fresh);
-        tally.count(Part::Fresh, 0, fresh == rust_fresh, || {
-            "the fresh state".to_owned()
-        });
-        let mut state = rust_fresh;
+        let list = list_for(pool, list_seed, LIST.min((count - done) as usize));
+        let mut state = fresh_state(tally, part);
         for (number, frame) in list.iter().enumerate() {
-            let rust = compare(tally, Part::Fresh, state, frame, || {
+            let rust = compare(tally, part, state, frame, serving.next(), || {
                 format!("list of seed {list_seed}, frame {number}")
             });
             state = rust.state;
         }
         done += list.len() as u64;
-        tally.progress("frames from fresh states", done, count);
+        tally.progress(part.name(), done, count);
     }
 }
 
+/// The oracle's, compared with the library's.
+fn fresh_state(tally: &mut Tally, part: Part) -> StateBytes {
+    let (mut fresh, mut rust_fresh) = ([UNWRITTEN; 148], [UNWRITTEN; 148]);
+    strakobud::fresh(&mut fresh);
+    host_calls::fresh(&mut rust_fresh);
+    tally.count(part, 0, fresh == rust_fresh, || {
+        "the fresh state".to_owned()
+    });
+    rust_fresh
+}
+
 /// Each frame on a state of its own, at times one with a number that is not finite or a damaged flag.
-pub fn from_arbitrary_states(tally: &mut Tally, seed: u64, count: u64) {
+pub fn from_arbitrary_states(tally: &mut Tally, pool: Option<&Pool>, seed: u64, count: u64) {
+    let part = pool.map_or(Part::Arbitrary, |_| Part::ArbitraryUnder);
+    let mut serving = Serving::new(pool, !seed);
     let mut random = Random::new(!seed);
     let mut done = 0;
     while done < count {
-        let list = scenes(random.long(), LIST.min((count - done) as usize));
+        let list = list_for(pool, random.long(), LIST.min((count - done) as usize));
         for frame in &list {
             let mut state = [UNWRITTEN; 148];
             write_state(&random_state(&mut random), &mut state);
@@ -96,12 +128,12 @@ pub fn from_arbitrary_states(tally: &mut Tally, seed: u64, count: u64) {
                 let flag = FLAGS[random.below(FLAGS.len())];
                 state[4 * flag + random.below(4)] = 1 + random.below(255) as u8;
             }
-            compare(tally, Part::Arbitrary, state, frame, || {
+            compare(tally, part, state, frame, serving.next(), || {
                 format!("{state:02x?} {frame:02x?}")
             });
         }
         done += list.len() as u64;
-        tally.progress("frames on arbitrary states", done, count);
+        tally.progress(part.name(), done, count);
     }
 }
 
@@ -110,12 +142,14 @@ fn compare(
     part: Part,
     state: StateBytes,
     frame: &[u8],
+    table: Option<&Lent>,
     what: impl Fn() -> String,
 ) -> Side {
-    let library = Side::on(state).library(frame);
-    let rust = Side::on(state).rust(frame);
+    let library = Side::on(state).library(frame, table);
+    let rust = Side::on(state).rust(frame, table);
     tally.count(part, rust.refusal, library == rust, || {
-        format!("{}: library {library:02x?}, oracle {rust:02x?}", what())
+        let (what, name) = (what(), name_of(table));
+        format!("{what} under {name}: library {library:02x?}, oracle {rust:02x?}")
     });
     rust
 }

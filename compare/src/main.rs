@@ -1,26 +1,41 @@
 //! Runs the library and the oracle on the same bytes, in one process, and compares every byte left.
 //!
-//! `compare SEED FRAMES STATES CALLS`: frames of scenes from fresh states, frames on arbitrary states, axis calls.
+//! `compare SEED FRAMES STATES CALLS UNDER`: frames of scenes from fresh states, frames on arbitrary states, axis calls; then, each that
+//! often, frames of both kinds and steps under tables and with T lent, and a tenth as many loads.
 
 mod calls;
 mod frames;
+mod t_lent;
+mod tables;
 mod tally;
 
 use std::{env, process};
 
+use tables::Pool;
 use tally::Tally;
 
 fn main() {
     let arguments: Vec<String> = env::args().skip(1).collect();
     let numbers: Option<Vec<u64>> = arguments.iter().map(|word| word.parse().ok()).collect();
-    let Some([seed, frames, states, calls]) = numbers.as_deref() else {
-        eprintln!("usage: compare SEED FRAMES STATES CALLS");
+    let Some([seed, frames, states, calls, under]) = numbers.as_deref() else {
+        eprintln!("usage: compare SEED FRAMES STATES CALLS UNDER");
         process::exit(2)
     };
     let mut tally = Tally::default();
-    frames::from_fresh_states(&mut tally, *seed, *frames);
-    frames::from_arbitrary_states(&mut tally, *seed, *states);
+    frames::from_fresh_states(&mut tally, None, *seed, *frames);
+    frames::from_arbitrary_states(&mut tally, None, *seed, *states);
     calls::axis_calls(&mut tally, *seed, *calls);
+    under_tables(&mut tally, *seed, *under);
     tally.print();
     process::exit(i32::from(tally.different > 0));
+}
+
+fn under_tables(tally: &mut Tally, seed: u64, count: u64) {
+    let pool = Pool::new(tally, seed);
+    tables::loads(tally, seed, count / 10);
+    frames::from_fresh_states(tally, Some(&pool), seed, count);
+    frames::from_arbitrary_states(tally, Some(&pool), seed, count);
+    calls::steps_under(tally, &pool, seed, count);
+    t_lent::frames(tally, &pool.t, seed, count);
+    t_lent::steps(tally, &pool.t, seed, count);
 }

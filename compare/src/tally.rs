@@ -11,9 +11,12 @@ const SHOWN: u64 = 5;
 pub struct Tally {
     pub compared: u64,
     pub different: u64,
-    /// By refusal, 0 for an accepted call: of frames from fresh states, of frames from arbitrary ones, of axis calls.
-    refusals: [[u64; 9]; 3],
+    /// Of each part, by refusal; 0 for an accepted call.
+    refusals: [[u64; REFUSALS]; Part::ALL.len()],
 }
+
+/// How many numbers an answer can have: 0 to 8, and 10 and 11 of a load.
+const REFUSALS: usize = 12;
 
 /// What is compared.
 #[derive(Clone, Copy)]
@@ -21,13 +24,44 @@ pub enum Part {
     Fresh,
     Arbitrary,
     Axis,
+    Loads,
+    FreshUnder,
+    ArbitraryUnder,
+    StepsUnder,
+    TLent,
+}
+
+impl Part {
+    const ALL: [Part; 8] = [
+        Part::Fresh,
+        Part::Arbitrary,
+        Part::Axis,
+        Part::Loads,
+        Part::FreshUnder,
+        Part::ArbitraryUnder,
+        Part::StepsUnder,
+        Part::TLent,
+    ];
+
+    pub fn name(self) -> &'static str {
+        match self {
+            Part::Fresh => "frames from fresh states",
+            Part::Arbitrary => "frames on arbitrary states",
+            Part::Axis => "axis calls",
+            Part::Loads => "loads of tables",
+            Part::FreshUnder => "frames from fresh states, under tables",
+            Part::ArbitraryUnder => "frames on arbitrary states, under tables",
+            Part::StepsUnder => "steps under tables",
+            Part::TLent => "frames and steps, T lent against no table",
+        }
+    }
 }
 
 impl Tally {
     /// Counts one comparison; `what` names it, should the two differ.
     pub fn count(&mut self, part: Part, refusal: u32, same: bool, what: impl Fn() -> String) {
         self.compared += 1;
-        self.refusals[part as usize][refusal as usize % 9] += 1;
+        self.refusals[part as usize][refusal as usize % REFUSALS] += 1;
         if !same {
             self.different += 1;
             if self.different <= SHOWN {
@@ -46,14 +80,9 @@ impl Tally {
     }
 
     pub fn print(&self) {
-        let parts = [
-            "frames from fresh states",
-            "frames on arbitrary states",
-            "axis calls",
-        ];
-        for (part, refusals) in parts.iter().zip(self.refusals) {
+        for (part, refusals) in Part::ALL.iter().zip(self.refusals) {
             let all: u64 = refusals.iter().sum();
-            println!("{part}: {all}");
+            println!("{}: {all}", part.name());
             for (number, count) in refusals.iter().enumerate().filter(|(_, count)| **count > 0) {
                 match number {
                     0 => println!("  {count:>12} accepted"),

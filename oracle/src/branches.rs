@@ -1,9 +1,9 @@
-//! How often each branch of `begin`, `end` and exp is met; without the feature `branches` nothing is counted.
+//! How often each branch of `begin`, `end`, exp and a table's load is met; without the feature `branches` nothing is counted.
 
 macro_rules! branches {
     ($($branch:ident $words:literal)*) => {
         /// A branch of the steps.
-        #[derive(Clone, Copy, Debug)]
+        #[derive(Clone, Copy, Debug, PartialEq, Eq)]
         pub enum Branch { $($branch),* }
 
         /// The branches in words, in the order of the steps.
@@ -65,7 +65,25 @@ branches! {
     StuckSuppressed "stuck flag is not recomputed"
     StuckAtEnd "stuck: offset is the end"
     StuckShort "stuck: content is short"
+    GivenEntry "exp by an entry of a given table"
+    GivenSquared "exp by squares under a given table"
+    GivenBelow "exp below -80 under a given table"
+    TableLength "table of another length: 10"
+    TableFirst "table with another first entry: 11"
+    TableOrder "table with an entry above the one before: 11"
+    TableLoads "table that loads"
 }
+
+/// Those that frames without a table cannot meet.
+pub const OF_TABLES: [Branch; 7] = [
+    Branch::GivenEntry,
+    Branch::GivenSquared,
+    Branch::GivenBelow,
+    Branch::TableLength,
+    Branch::TableFirst,
+    Branch::TableOrder,
+    Branch::TableLoads,
+];
 
 #[cfg(feature = "branches")]
 mod counts {

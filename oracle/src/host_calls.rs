@@ -1,6 +1,6 @@
 //! The calls of the host library on records of 32-bit little-endian words, under document 01's refusals.
 //!
-//! Each takes and leaves the bytes that the library's function of the same name does.
+//! Each takes and leaves the bytes that the library's function of the same name does; a table that was loaded is taken as its entries.
 
 use crate::axis_calls;
 use crate::frame_call::call_on_checked_frame;
@@ -8,6 +8,7 @@ use crate::frame_checks::frame_refusal;
 use crate::frame_state::State;
 use crate::records::{read_state, write_output, write_state, OutBytes, Reader, StateBytes, Writer};
 use crate::scroll_physics::{scroll_bounds, WheelScroll};
+use crate::tables::{self, Table, TableBytes};
 
 pub fn fresh(state: &mut StateBytes) {
     write_state(&State::default(), state);
@@ -28,6 +29,32 @@ pub fn frame(state: &mut StateBytes, frame: &[u8], out: &mut OutBytes) -> u32 {
         write_output(&output, out);
     }
     output.refusal
+}
+
+/// The same under a table.
+pub fn frame_by(
+    state: &mut StateBytes,
+    bytes: &[u8],
+    table: &'static Table,
+    out: &mut OutBytes,
+) -> u32 {
+    tables::under(table, || frame(state, bytes, out))
+}
+
+/// 0 or the refusal; on a refusal the table does not change.
+pub fn table_load(bytes: &[u8], table: &mut TableBytes) -> u32 {
+    match tables::load(bytes) {
+        Ok(_) => {
+            table.copy_from_slice(bytes);
+            0
+        }
+        Err(refusal) => refusal,
+    }
+}
+
+/// T itself.
+pub fn table_t(table: &mut TableBytes) {
+    *table = tables::t_bytes();
 }
 
 /// The shown offset.
@@ -73,6 +100,11 @@ pub fn step(call: &[u8; 40], out: &mut [u8; 12]) -> u32 {
         writer.flag(answer.answer);
     }
     answer.refusal
+}
+
+/// The same under a table.
+pub fn step_by(call: &[u8; 40], table: &'static Table, out: &mut [u8; 12]) -> u32 {
+    tables::under(table, || step(call, out))
 }
 
 pub fn wheel(call: &[u8; 52], out: &mut [u8; 16]) -> u32 {

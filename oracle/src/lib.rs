@@ -22,4 +22,6 @@ pub mod records;
 pub mod rectangles;
 pub mod scenes;
 pub mod scroll_physics;
+pub mod table_vectors;
+pub mod tables;
 pub mod words;

@@ -1,16 +1,17 @@
 //! Stand-ins for document 01, section "Numbers", with document 02's exp, rounded once per operation.
 
-use crate::branches::{met, Branch};
+use crate::branches::{met, met_if, Branch};
+use crate::tables::{self, Table};
 
 /// The sign bit of an f32.
 const SIGN: u32 = 0x8000_0000;
 
 /// Document 01: "Table T has 1,025 entries".
-pub const TABLE: [u64; 1025] = build_table();
+pub static TABLE: Table = build_table();
 
 /// Document 01: "T[0] = 2^40, T[k+1] = T[k] × 48,769 / 49,537 rounded down."
-const fn build_table() -> [u64; 1025] {
-    let mut table = [1 << 40; 1025];
+const fn build_table() -> Table {
+    let mut table = [1 << 40; tables::ENTRIES];
     let mut k = 0;
     while k < 1024 {
         table[k + 1] = table[k] * 48_769 / 49_537;
@@ -221,28 +222,33 @@ pub fn interpolation_factor(start: f64, end: f64, time: f64, dt: f32) -> f32 {
     }
 }
 
+/// exp by table T.
+pub fn exp(x: f32) -> f32 {
+    exp_by(&TABLE, x)
+}
+
 /// Document 02: "the square, rounded once, of exp of half of x", from -80 up to, but without, -16; "Below -80 it is 0."
 ///
-/// Above 0 it is a not-a-number.
-pub fn exp(x: f32) -> f32 {
+/// Above 0 it is a not-a-number. The squares too read the table "in the place of T".
+pub fn exp_by(table: &Table, x: f32) -> f32 {
     if x < -80.0 {
         return 0.0;
     }
     if x < -16.0 {
-        return powi2(exp(x / 2.0));
+        return powi2(exp_by(table, x / 2.0));
     }
     if x.is_nan() || 0.0 < x {
         return f32::NAN;
     }
-    exp_by_table(x)
+    exp_by_entry(table, x)
 }
 
 /// Document 01: "u = -64 × x, k its whole part, y = (u - k) / 64", for x from -16 to 0.
-fn exp_by_table(x: f32) -> f32 {
+fn exp_by_entry(table: &Table, x: f32) -> f32 {
     let u = -64.0 * x;
     let k = u as usize;
     let y = (u - k as f32) / 64.0;
-    exp_remainder(y) * exp_of_table(k)
+    exp_remainder(y) * exp_of_entry(table[k])
 }
 
 /// Document 02: "repeated until the half is -16 or more", by the argument: once from -32 on, twice from -64 on, thrice from -80 on.
@@ -260,14 +266,25 @@ fn branch_of_exp(x: f32) -> Branch {
     }
 }
 
+/// Under a table that is given: whether an entry is read by itself, for squares, or not at all.
+fn branch_of_given(x: f32) -> Branch {
+    if x < -80.0 {
+        Branch::GivenBelow
+    } else if x < -16.0 {
+        Branch::GivenSquared
+    } else {
+        Branch::GivenEntry
+    }
+}
+
 /// Document 01: "q = 1 - y × (1 - y / 2 × (1 - y / 3))".
 fn exp_remainder(y: f32) -> f32 {
     1.0 - y * (1.0 - y / 2.0 * (1.0 - y / 3.0))
 }
 
-/// Document 01: "whole part of T[k] / 65,536, divided by 2^24"; both steps are exact.
-fn exp_of_table(k: usize) -> f32 {
-    (TABLE[k] / 65_536) as f32 / 16_777_216.0
+/// Document 01: "whole part of T[k] / 65,536, divided by 2^24"; both steps are exact, as no entry is above the first, 2^40.
+fn exp_of_entry(entry: u64) -> f32 {
+    (entry / 65_536) as f32 / 16_777_216.0
 }
 
 /// The meanings above as methods, under names that f32 does not have itself.
@@ -306,8 +323,12 @@ impl Stated for f32 {
         powi2(self)
     }
 
+    // Out of line, so that the look for a table does not change the code around it, whose cost bench/ counts.
+    #[inline(never)]
     fn stated_exp(self) -> f32 {
         met(branch_of_exp(self));
-        exp(self)
+        let given = tables::given();
+        met_if(given.is_some(), branch_of_given(self));
+        exp_by(given.unwrap_or(&TABLE), self)
     }
 }

@@ -10,7 +10,7 @@ mod fixed_wheel_edges;
 mod place;
 mod random;
 pub(crate) mod random_numbers;
-mod scene;
+pub(crate) mod scene;
 mod tally;
 
 use crate::words::{in_bytes, in_hex};
@@ -91,6 +91,11 @@ impl Call {
         answers::answer(self).0
     }
 
+    /// The operands that the kind takes.
+    pub fn operands(&self) -> &[u32] {
+        &self.words[..self.kind.used()]
+    }
+
     /// The record that asks: the kind and thirteen words, 56 bytes.
     pub fn input_record(&self) -> Vec<u8> {
         let mut words = vec![self.kind as u32];
@@ -101,7 +106,7 @@ impl Call {
     /// The line that answers: the name, the operands used, the refusal and the answer.
     pub fn output_line(&self) -> String {
         let name = self.kind.name();
-        let operands = in_hex(&self.words[..self.kind.used()]);
+        let operands = in_hex(self.operands());
         let (refusal, shown) = answers::answer(self);
         format!("{name}{operands} = {refusal}{shown}\n")
     }

@@ -1,26 +1,49 @@
 //! Runs frames from standard input, one after another from a fresh state, and prints a line each.
 //!
-//! `frames` prints document 01's listing, `frames full` every output.
+//! `frames [TABLE]` prints document 01's listing, `frames full [TABLE]` every output; a table that is refused prints its number alone.
 
 use std::io::{self, Read, Write};
-use std::{env, process};
+use std::{env, fs, process};
 
 use oracle::frame_call::{run, Output};
+use oracle::tables::{kept, load, under, Table};
 
 fn main() {
     let arguments: Vec<String> = env::args().skip(1).collect();
-    let line = match arguments.iter().map(String::as_str).collect::<Vec<_>>()[..] {
-        [] => Output::listing_line,
-        ["full"] => Output::full_line,
-        _ => {
-            eprintln!("usage: frames [full]");
-            process::exit(2)
-        }
+    let (line, file): (fn(&Output) -> String, _) = match &arguments[..] {
+        [] => (Output::listing_line, None),
+        [word] if word == "full" => (Output::full_line, None),
+        [file] => (Output::listing_line, Some(file)),
+        [word, file] if word == "full" => (Output::full_line, Some(file)),
+        _ => fail("usage: frames [full] [TABLE]", 2),
     };
+    match file.map(|file| table(file)).transpose() {
+        Ok(table) => print(&listing(table, line)),
+        Err(refusal) => print(&format!("{refusal}\n")),
+    }
+}
+
+fn fail(message: &str, status: i32) -> ! {
+    eprintln!("{message}");
+    process::exit(status)
+}
+
+/// The table in that file, or its refusal.
+fn table(file: &str) -> Result<&'static Table, u32> {
+    let bytes = fs::read(file).unwrap_or_else(|error| fail(&format!("{file}: {error}"), 1));
+    load(&bytes).map(kept)
+}
+
+/// The lines of the frames on standard input.
+fn listing(table: Option<&'static Table>, line: fn(&Output) -> String) -> String {
     let mut bytes = Vec::new();
     let mut input = io::stdin().lock();
     input.read_to_end(&mut bytes).expect("the frames are read");
-    let lines: String = run(&bytes).map(|output| line(&output)).collect();
+    let lines = || run(&bytes).map(|output| line(&output)).collect();
+    under(table, lines)
+}
+
+fn print(lines: &str) {
     let written = io::stdout().lock().write_all(lines.as_bytes());
     written.expect("the listing is written");
 }

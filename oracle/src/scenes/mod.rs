@@ -16,6 +16,20 @@ mod wheels;
 
 use stage::Stage;
 
+/// That many whole frames of drags and flings alone, where exp shows.
+pub fn fling_list(seed: u64, count: usize) -> Vec<Vec<u8>> {
+    let mut stage = Stage::new(seed, count + 1);
+    while !stage.is_full() {
+        match stage.random.below(3) {
+            0 => drags::touch(&mut stage),
+            _ => short_decays::flings(&mut stage),
+        }
+    }
+    let mut frames = stage.finish();
+    frames.truncate(count);
+    frames
+}
+
 /// That many frames; the last one is cut short, since only a last part can be.
 pub fn scene_list(seed: u64, count: usize) -> Vec<Vec<u8>> {
     let mut stage = Stage::new(seed, count);

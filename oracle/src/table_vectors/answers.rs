@@ -1,0 +1,68 @@
+//! The answers of a list, each under the table that serves by then.
+
+use super::Record;
+use crate::axis_vectors::Call;
+use crate::frame_call::{frame_call, Output};
+use crate::frame_state::State;
+use crate::numbers::Stated as _;
+use crate::tables::{kept, load, under, Table};
+use crate::words::{in_hex, shown};
+
+/// What a record is answered with: the refusal, 0 for none, and the line that is printed.
+pub struct Answer {
+    pub refusal: u32,
+    pub line: String,
+}
+
+/// What a list has led to: the table that serves, none for T, and the state.
+struct Run {
+    table: Option<&'static Table>,
+    state: State,
+}
+
+/// The answers, from a fresh state and with T serving.
+pub fn answers(list: &[Record]) -> Vec<Answer> {
+    let mut run = Run {
+        table: None,
+        state: State::default(),
+    };
+    list.iter().map(|record| run.answer(record)).collect()
+}
+
+impl Run {
+    fn answer(&mut self, record: &Record) -> Answer {
+        match record {
+            Record::Load(bytes) => self.load(bytes),
+            Record::Exp(bits) => self.exp(*bits),
+            Record::Step(call) => self.step(call),
+            Record::Frame(bytes) => self.frame(bytes),
+        }
+    }
+
+    fn load(&mut self, bytes: &[u8]) -> Answer {
+        let loaded = load(bytes);
+        let refusal = *loaded.as_ref().err().unwrap_or(&0);
+        self.table = loaded.ok().map(kept);
+        let line = format!("load {} {refusal}\n", bytes.len());
+        Answer { refusal, line }
+    }
+
+    fn exp(&self, bits: u32) -> Answer {
+        let found = under(self.table, || f32::from_bits(bits).stated_exp());
+        let line = format!("exp{}\n", in_hex(&[bits, shown(found)]));
+        Answer { refusal: 0, line }
+    }
+
+    fn step(&self, call: &Call) -> Answer {
+        let (refusal, line) = under(self.table, || (call.refusal(), call.output_line()));
+        Answer { refusal, line }
+    }
+
+    fn frame(&mut self, bytes: &[u8]) -> Answer {
+        let output = under(self.table, || frame_call(self.state, bytes));
+        let Output { refusal, state, .. } = output;
+        self.state = state;
+        let line = format!("frame {}", output.listing_line());
+        Answer { refusal, line }
+    }
+}

@@ -1,0 +1,54 @@
+//! Loads of tables and calls under them, one list on one state, and the answers that the documents give them.
+
+mod answers;
+mod fixed;
+mod random;
+mod tally;
+
+use crate::axis_vectors::Call;
+use crate::words::in_bytes;
+
+pub use answers::{answers, Answer};
+pub use fixed::{fixed_list, reset_frames};
+pub use random::random_list;
+pub use tally::tally;
+
+/// One record of the list.
+#[derive(Clone, Debug)]
+pub enum Record {
+    /// Bytes that serve from then on where they load; where they do not, T does.
+    Load(Vec<u8>),
+    /// The bits of a number.
+    Exp(u32),
+    /// An axis call, a step.
+    Step(Call),
+    /// A whole frame, on the state that the frames before it left.
+    Frame(Vec<u8>),
+}
+
+impl Record {
+    /// The kinds in the order of their numbers, from 1 on.
+    pub const NAMES: [&'static str; 4] = ["load", "exp", "step", "frame"];
+
+    /// The kind's number, from 1 on.
+    pub fn kind(&self) -> usize {
+        match self {
+            Record::Load(_) => 1,
+            Record::Exp(_) => 2,
+            Record::Step(_) => 3,
+            Record::Frame(_) => 4,
+        }
+    }
+
+    /// The record that asks: the kind's word, and what the kind takes; a load's bytes after their number.
+    pub fn input_record(&self) -> Vec<u8> {
+        let kind = in_bytes(&[self.kind() as u32]);
+        let rest = match self {
+            Record::Load(bytes) => [&in_bytes(&[bytes.len() as u32]), &bytes[..]].concat(),
+            Record::Exp(bits) => in_bytes(&[*bits]),
+            Record::Step(call) => in_bytes(call.operands()),
+            Record::Frame(bytes) => bytes.clone(),
+        };
+        [kind, rest].concat()
+    }
+}
