@@ -23,6 +23,10 @@
  *   8  a number among the outputs is not finite
  * The lowest that applies is answered; 7 goes before 8. A word inside an option whose flag is 0 is not looked at.
  *
+ * And of a table, when it is loaded:
+ *  10  it is not 8,200 bytes long
+ *  11  its first entry is not 2^40, or an entry is above the one before it
+ *
  * What a host has to do:
  * - Draw by the shown offset: strakobud_offset, after the frame. The viewport in out is where the list stood before it
  *   was put on its end: one frame late where rows arrive, and at an explicit offset that sticking overrides. Nothing
@@ -47,6 +51,7 @@ extern "C" {
 #define STRAKOBUD_STATE_BYTES 148
 #define STRAKOBUD_FRAME_BYTES 416
 #define STRAKOBUD_OUT_BYTES 100
+#define STRAKOBUD_TABLE_BYTES 8200
 
 /* Writes a fresh state: at the start, at rest, stuck to the end.
  *
@@ -76,6 +81,19 @@ void strakobud_fresh(uint8_t state[STRAKOBUD_STATE_BYTES]);
 uint32_t strakobud_frame(uint8_t state[STRAKOBUD_STATE_BYTES], const uint8_t *frame, size_t len,
                          uint8_t out[STRAKOBUD_OUT_BYTES]);
 
+/* A maker's own decay table: 1,025 numbers of 64 bits, the lowest byte first, by which a coasting list slows in the place
+ * of the built-in table T. Loading checks the len bytes and, at 0, copies them to table; at 10 and 11 table stays. Equal
+ * entries and zeros load. Load once, keep the table, lend it to each call that it is to serve, and write it no more. */
+uint32_t strakobud_table_load(const uint8_t *bytes, size_t len, uint8_t table[STRAKOBUD_TABLE_BYTES]);
+
+/* Writes T itself. It loads, and lent it gives the very answers of the calls without a table, at less cost (README). */
+void strakobud_table_t(uint8_t table[STRAKOBUD_TABLE_BYTES]);
+
+/* strakobud_frame under a table. Each call may have another. A table that was not loaded is not refused here: an entry
+ * above 2^40 counts as 2^40, and the answer is defined. */
+uint32_t strakobud_frame_by(uint8_t state[STRAKOBUD_STATE_BYTES], const uint8_t *frame, size_t len,
+                            const uint8_t table[STRAKOBUD_TABLE_BYTES], uint8_t out[STRAKOBUD_OUT_BYTES]);
+
 /* The shown offset x, y, by which the list is drawn: the stored one held to its range. 0, or 6 for a state with a flag
  * that is not 0 or 1, with out as it was. */
 uint32_t strakobud_offset(const uint8_t state[STRAKOBUD_STATE_BYTES], uint8_t out[8]);
@@ -88,6 +106,9 @@ uint32_t strakobud_drag(const uint8_t call[32], uint8_t out[4]);
 
 /* then offset, velocity, dt, hold; out: offset, velocity, answer (1 while it moves) */
 uint32_t strakobud_step(const uint8_t call[40], uint8_t out[12]);
+
+/* strakobud_step under a table. */
+uint32_t strakobud_step_by(const uint8_t call[40], const uint8_t table[STRAKOBUD_TABLE_BYTES], uint8_t out[12]);
 
 /* then offset, velocity, delta, source, can_chain_to_parent, dt, bounced; out: offset, velocity, bounced, answer (1 if
  * the delta is taken) */

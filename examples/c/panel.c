@@ -1,5 +1,6 @@
 /* A list of events on a panel: rows arrive and the list stays on its last entry. A row that arrives with a touch sample that
- * is not a number is refused with it, and shown once the frame is run again without its input. */
+ * is not a number is refused with it, and shown once the frame is run again without its input. Then a table for the decay is
+ * loaded and serves. */
 #include <inttypes.h>
 #include <math.h>
 #include <stdio.h>
@@ -70,6 +71,14 @@ static void show(const char *what, uint32_t refusal, const uint8_t *state)
         printf("%s: refusal %" PRIu32 ", shown offset %.1f\n", what, refusal, number_at(offset, 2));
 }
 
+/* What a maker ships; here the built-in table stands for it. */
+static uint8_t shipped[STRAKOBUD_TABLE_BYTES], table[STRAKOBUD_TABLE_BYTES];
+
+static void load(const char *what)
+{
+    printf("%s: load %" PRIu32 "\n", what, strakobud_table_load(shipped, sizeof shipped, table));
+}
+
 int main(void)
 {
     uint8_t state[STRAKOBUD_STATE_BYTES], frame[STRAKOBUD_FRAME_BYTES], out[STRAKOBUD_OUT_BYTES];
@@ -87,5 +96,12 @@ int main(void)
     clear_input(frame);
     show("the same without input", strakobud_frame(state, frame, sizeof frame, out), state);
     show("a short frame", strakobud_frame(state, frame, 100, out), state);
+
+    strakobud_table_t(shipped);
+    load("a table");
+    list_frame(frame, 460);
+    show("23 rows, by the table", strakobud_frame_by(state, frame, sizeof frame, table, out), state);
+    shipped[0] = 1; /* its first entry is no longer 2^40 */
+    load("a damaged table");
     return 0;
 }

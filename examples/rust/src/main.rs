@@ -1,6 +1,6 @@
 //! A list of events on a panel: rows arrive and the list stays on its last entry. A row that arrives with a touch sample that is
-//! not a number is refused with it, and shown once the frame is run again without its input. Words are numbered from 1, as in
-//! include/strakobud.h.
+//! not a number is refused with it, and shown once the frame is run again without its input. Then a table for the decay is loaded
+//! and serves. Words are numbered from 1, as in include/strakobud.h.
 
 struct Frame([u8; 416]);
 
@@ -55,13 +55,21 @@ fn shown_offset(state: &strakobud::StateBytes) -> f32 {
     f32::from_le_bytes(out[4..].try_into().expect("four bytes"))
 }
 
+fn show(what: &str, refusal: u32, state: &strakobud::StateBytes) {
+    let offset = shown_offset(state);
+    println!("{what}: refusal {refusal}, shown offset {offset:.1}");
+}
+
+fn load(what: &str, shipped: &[u8], table: &mut strakobud::TableBytes) {
+    println!("{what}: load {}", strakobud::table_load(shipped, table));
+}
+
 fn main() {
     let (mut state, mut out) = ([0; 148], [0; 100]);
     strakobud::fresh(&mut state);
     let mut run = |what: &str, frame: &[u8]| {
         let refusal = strakobud::frame(&mut state, frame, &mut out);
-        let offset = shown_offset(&state);
-        println!("{what}: refusal {refusal}, shown offset {offset:.1}");
+        show(what, refusal, &state);
     };
     run("20 rows", &Frame::of_list(400.0).0);
     run("21 rows", &Frame::of_list(420.0).0);
@@ -72,4 +80,14 @@ fn main() {
     frame.clear_input();
     run("the same without input", &frame.0);
     run("a short frame", &frame.0[..100]);
+
+    // What a maker ships; here the built-in table stands for it.
+    let (mut shipped, mut table) = ([0; 8200], [0; 8200]);
+    strakobud::table_t(&mut shipped);
+    load("a table", &shipped, &mut table);
+    let frame = Frame::of_list(460.0);
+    let refusal = strakobud::frame_by(&mut state, &frame.0, &table, &mut out);
+    show("23 rows, by the table", refusal, &state);
+    shipped[0] = 1; // its first entry is no longer 2^40
+    load("a damaged table", &shipped, &mut table);
 }
