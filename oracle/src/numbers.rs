@@ -268,12 +268,10 @@ fn branch_of_exp(x: f32) -> Branch {
 
 /// Under a table that is given: whether an entry is read by itself, for squares, or not at all.
 fn branch_of_given(x: f32) -> Branch {
-    if x < -80.0 {
-        Branch::GivenBelow
-    } else if x < -16.0 {
-        Branch::GivenSquared
-    } else {
-        Branch::GivenEntry
+    match branch_of_exp(x) {
+        Branch::ExpBelow => Branch::GivenBelow,
+        Branch::ExpByTable => Branch::GivenEntry,
+        _ => Branch::GivenSquared,
     }
 }
 

@@ -8,11 +8,11 @@ use native.Mathlib.Nat.{le-refl, le-of-eq, zero-add, add-zero, add-suc, suc-add,
 use native.Mathlib.Numerals.{add-one}
 use native.Mathlib.Omega.{arith}
 use borrow.Author.Tests.{ltb-true}
-use lib.Dec.{eqb, ltb, lit<}
+use lib.Dec.{eqb, ltb}
 use lib.ListN.{length, getD, take, drop, take-append-drop, drop-of-length-le}
 use Rattle.words.specs.Words.{wordAt, longAt, bytesOf, putAt}
 use Rattle.numbers.specs.Table.{Table, tableAt, tableOf, loadOf, IsTable, Served}
-use Rattle.numbers.proofs.TableLaws.{t-is-table, at-most}
+use Rattle.numbers.proofs.TableLaws.{t-is-table, as-table, at-most}
 use Rattle.numbers.proofs.LoadLaws.{so-loads}
 use Rattle.host.specs.Calls.{frameUnder, stepUnder}
 use Rattle.host.specs.Table.{longWords, entryWords, tableBytes, ServesAsT}
@@ -76,14 +76,7 @@ entry-read k h =
 -- ---- so they load, and stand for T
 
 bytes-are-table : IsTable (longAt tableBytes)
-bytes-are-table = record {
-  first = entry-read 0 (lit< tt) ∙ t-is-table .first;
-  falls = λ k h.
-      let next = entry-read (suc k) (omega arith) in
-      let this = entry-read k (omega arith) in
-      let l = t-is-table .falls k h in
-      omega (arith, next, this, l);
-}
+bytes-are-table = as-table tableAt (longAt tableBytes) entry-read t-is-table
 
 t-loads : loadOf tableBytes ≡ 0
 t-loads = so-loads tableBytes (loadOf tableBytes) refl .1 .1 bytes-long bytes-are-table

@@ -11,10 +11,10 @@ use Rattle.numbers.specs.F32.{over, one, two, sixteen, eighty}
 use Rattle.numbers.specs.F32 as F32
 use Rattle.numbers.specs.Scalar.{powi2Of, isFinite}
 use Rattle.numbers.specs.Table.{Table, tableAt, tableOf, IsTable}
-use Rattle.numbers.specs.Exp.{byTable, halvedOf, expOf, IsInUnit, EveryTable, Decays}
+use Rattle.numbers.specs.Exp.{byTable, halvedOf, expOf, IsInUnit, IsBounded, EveryTable, Decays}
 use Rattle.numbers.proofs.WithinLaws.{Within, AreFinite, le-of-eq, le-trans, wider, at-least, product}
 use Rattle.numbers.proofs.TableLaws.{t-is-table, at-most}
-use Rattle.numbers.proofs.LoadLaws.{lent-at-most}
+use Rattle.numbers.proofs.LoadLaws.{lent-at-most, loaded-is-table}
 use Rattle.numbers.proofs.ExpLaws.{IsCapped, from-16, power, t-from-10, t-from-16}
 use Rattle.numbers.proofs.HalvedLaws.{goes-on, stops, From, IsHalf, half-from, below-80, from-80, reached}
 
@@ -92,9 +92,11 @@ at-0 : (table : Table) → IsTable table → (expOf table F32.zero ≡ one) × (
 unfolding byTable halvedOf expOf ofBits ofInt neg sub mul div lt le toUnsigned
 at-0 table is = (rw (is .first), rw (is .first))
 
--- under every table that loads, by its first entry and their order
-pub every-table : (table : Table) → IsTable table → EveryTable table
-every-table table is = record { in-unit = in-unit table (at-most table is); at-0 = at-0 table is }
+is-bounded : (table : Table) → IsTable table → IsBounded table
+is-bounded table is = record { in-unit = in-unit table (at-most table is); at-0 = at-0 table is }
+
+pub every-table : EveryTable
+every-table = record { ordered = is-bounded; loaded = λ bytes z. is-bounded (tableOf bytes) (loaded-is-table bytes z) }
 
 -- and of bytes that nobody loaded, since a lent entry counts as 2^40 at most
 pub so-in-unit : (bytes : List ℕ) (x r : Float) → r ≡ expOf (tableOf bytes) x → (r ≡ expOf (tableOf bytes) x) × IsInUnit x r

@@ -12,7 +12,7 @@ use lib.Ieee.Bits.{is-true}
 use lib.Ieee.Fits.{and-i, and-l, and-r}
 use Rattle.words.specs.Words.{longAt}
 use Rattle.numbers.specs.Table.{tableAt, isOrdered, loadOf, tableOf, IsTable, Served, Loads}
-use Rattle.numbers.proofs.TableLaws.{t-is-table, at-most}
+use Rattle.numbers.proofs.TableLaws.{t-is-table, as-table, at-most}
 
 -- what loading answers, by the length and the order
 abbrev answer : Bool → Bool → ℕ
@@ -97,6 +97,10 @@ module _ (bytes : List ℕ) where
       go true true e f z = served (subst T (sym e) tt) (subst T (sym f) tt)
       go true false e f z = absurd (eqb-false 11 0 refl z)
       go false o e f z = absurd (eqb-false 10 0 refl z)
+
+  -- so what serves is a table, too
+  pub loaded-is-table : loadOf bytes ≡ 0 → IsTable (tableOf bytes)
+  loaded-is-table z = let s = only-served z in as-table (longAt bytes) (tableOf bytes) (s .read) (s .ordered)
 
   all-served : length bytes ≡ 8200 → IsTable (longAt bytes) → loadOf bytes ≡ 0
   unfolding loadOf
