@@ -25,7 +25,7 @@ use Rattle.area.proofs.TestLaws.{and-left, and-right}
 -- ---- with the first refusal r of checks 1 to 6, whether a press is blocked, and whether what is put out is finite
 
 -- the frame call, and document 01's steps
-abbrev called : State → Answer → ℕ → Bool → Bool → Bool → Answer
+abbrev pub called : State → Answer → ℕ → Bool → Bool → Bool → Answer
 called S outputs r passes blocked finite = cond passes (cond blocked (refusedOf S 7) (cond finite outputs (refusedOf S 8))) (refusedOf S r)
 
 abbrev tried : State → Answer → ℕ → Bool → Answer
@@ -76,7 +76,7 @@ step-is-call table S bytes =
     (isAnswerFinite (outputsAt table S bytes)) refl
 
 -- "A refusal returns the state as given"
-outputs-accepted : (table : Table) (S : State) (bytes : List ℕ) → isAccepted (outputsAt table S bytes) ≡ true
+pub outputs-accepted : (table : Table) (S : State) (bytes : List ℕ) → isAccepted (outputsAt table S bytes) ≡ true
 unfolding outputsAt answerOf outcomeOf
 outputs-accepted table S bytes = refl
 
@@ -99,6 +99,7 @@ pub record IsFiniteOn (e : Ended) (d : ℕ) : Type 0 where
 pub record Accepted (table : Table) (S : State) (bytes : List ℕ) : Type 0 where
   pub state : stepAt table S bytes .state ≡ nextState (endedAt table S bytes)
   pub unrefused : refusalOf bytes S ≡ 0
+  pub finite : isStateFinite (nextState (endedAt table S bytes)) ≡ true
   pub x : IsFiniteOn (endedAt table S bytes) 0
   pub y : IsFiniteOn (endedAt table S bytes) 1
 
@@ -144,10 +145,12 @@ call-accepted table S bytes a =
 pub accepted : (table : Table) (S : State) (bytes : List ℕ) → isAccepted (stepAt table S bytes) ≡ true → Accepted table S bytes
 accepted table S bytes a =
     let c = call-accepted table S bytes (rw step-is-call at a) in
-    let n = ended-finite (endedAt table S bytes) (outputs-finite table S bytes (c .1)) in
+    let finite = outputs-finite table S bytes (c .1) in
+    let n = ended-finite (endedAt table S bytes) finite in
     record {
       state = ap (λ (r : Answer). r .state) (step-is-call table S bytes ∙ c .0) ∙ outputs-state table S bytes;
       unrefused = c .2;
+      finite = finite;
       x = n .0;
       y = n .1;
     }

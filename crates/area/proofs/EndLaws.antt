@@ -25,7 +25,7 @@ use Rattle.area.specs.Stick.{sentToEnd, stickOf}
 use Rattle.area.specs.Handle.{trackOf, handleOf}
 use Rattle.area.specs.Press.{pressOf}
 use Rattle.area.specs.Bar.{noResponse, boundMotionOf, shownBar, hiddenBar, turnBar, barOf}
-use Rattle.area.specs.Settle.{settleOf}
+use Rattle.area.specs.FinalClamp.{finalClampOf}
 use Rattle.area.specs.End.{barSpaceOf, showStage, stuckStage, barredStage, endedBy, finishedOf, axisEndedOf, endOf}
 use Rattle.area.specs.PutOut.{nextState}
 use Rattle.area.specs.Steps.{begunAt, endedAt, stepAt, isAccepted}
@@ -46,7 +46,7 @@ use Rattle.area.specs.declared.«wheel_turn».WheelHeard.{WheelHeard}
 use Rattle.area.specs.declared.«wheel_turn».Turned.{Turned}
 use Rattle.area.specs.declared.handle.Track.{Track}
 use Rattle.area.specs.declared.bar.Barred.{Barred}
-use Rattle.area.specs.declared.settle.Settled.{Settled}
+use Rattle.area.specs.declared.«final_clamp».FinalClamp.{FinalClamp}
 use Rattle.area.specs.declared.end.AxisEnded.{AxisEnded}
 use Rattle.area.specs.declared.end.Extents.{Extents}
 use Rattle.area.proofs.TestLaws.{or-left, not-left, not-right, and-both, chosen}
@@ -130,16 +130,16 @@ last-clamp false offset maxOffset n (inl h) = inr (ap (λ (x : Float). clampedTo
 last-clamp false offset maxOffset n (inr h) =
     inr (ap (λ (x : Float). clampedTo x maxOffset) (h ∙ clamps-to-end maxOffset) ∙ clamp-keeps-end maxOffset n)
 
-abbrev IsSettledAtEnd : Float → Settled → Type 0
-IsSettledAtEnd maxOffset z = IsAtEnd maxOffset (z .offset) (z .«scroll_stuck_to_end»)
+abbrev IsFinalAtEnd : Float → FinalClamp → Type 0
+IsFinalAtEnd maxOffset z = IsAtEnd maxOffset (z .offset) (z .«scroll_stuck_to_end»)
 
-settled-at-end : (m : AxisMotion) (rubberBanding : Bool) (maxOffset : Float) (stick adjusted : Bool)
+final-at-end : (m : AxisMotion) (rubberBanding : Bool) (maxOffset : Float) (stick adjusted : Bool)
     → isFinite maxOffset ≡ true → stick ≡ true → adjusted ≡ false → IsLeft (m .offset) maxOffset maxOffset
-    → IsSettledAtEnd maxOffset (settleOf m rubberBanding maxOffset stick adjusted)
-unfolding settleOf pickOf
-settled-at-end m rubberBanding maxOffset true false n p q h = at-end maxOffset _ n (last-clamp rubberBanding (m .offset) maxOffset n h)
-settled-at-end m rubberBanding maxOffset true true n p q h = absurd (true≢false q)
-settled-at-end m rubberBanding maxOffset false adjusted n p q h = absurd (false≢true p)
+    → IsFinalAtEnd maxOffset (finalClampOf m rubberBanding maxOffset stick adjusted)
+unfolding finalClampOf pickOf
+final-at-end m rubberBanding maxOffset true false n p q h = at-end maxOffset _ n (last-clamp rubberBanding (m .offset) maxOffset n h)
+final-at-end m rubberBanding maxOffset true true n p q h = absurd (true≢false q)
+final-at-end m rubberBanding maxOffset false adjusted n p q h = absurd (false≢true p)
 
 -- ---- one axis through `end`
 abbrev IsEndedAtEnd : Float → AxisEnded → Type 0
@@ -157,7 +157,7 @@ finished-at-end f d e before x adjusted turned n st k a h =
     let explicit = adjusted .«had_explicit_scroll_adjustment» in
     let motion = barredStage f d e before x adjusted turned .motion in
     let on-it = stick-offset (turned .motion) stick explicit maxOffset st k a in
-    settled-at-end motion (turned .«rubber_banding») maxOffset stick explicit n st a
+    final-at-end motion (turned .«rubber_banding») maxOffset stick explicit n st a
     (subst (λ (o : Float). IsLeft (motion .offset) o maxOffset) on-it
     (bar-leaves f d e x (showStage f d e before x adjusted turned) (turned .«rubber_banding») _ (stuckStage f d e before x adjusted turned) h))
 

@@ -13,6 +13,9 @@ pub mod ZeroLaws
 pub mod PassedLaws
 pub mod MovedLaws
 pub mod WithoutInputLaws
+pub mod SettlingRunLaws
+pub mod InsideLaws
+pub mod RunLaws
 pub mod ListingLaws
 pub mod ListLaws
 pub mod ReplayLaws

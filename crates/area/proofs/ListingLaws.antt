@@ -29,7 +29,7 @@ use Rattle.area.specs.WheelTurn.{heardOf, turnedOf}
 use Rattle.area.specs.Stick.{stickOf}
 use Rattle.area.specs.Handle.{showFactorOf}
 use Rattle.area.specs.Bar.{turnBar, barOf}
-use Rattle.area.specs.Settle.{settleOf}
+use Rattle.area.specs.FinalClamp.{finalClampOf}
 use Rattle.area.specs.End.{endedBy, finishedOf, axisEndedOf, shrunkRectOf, endOf, isPressBlocked}
 use Rattle.area.specs.Outcome.{isHandleFinite, isOutcomeFinite, isAnswerFinite}
 use Rattle.area.specs.PutOut.{nextState, wheelDeltaLeft, scrollDeltaLeft, outcomeOf, answerOf}
@@ -54,7 +54,7 @@ unfolding
     dragEnabled hasBackgroundDrag inputOf lastPhysicsOf begunFrom innerRectOf viewportOf preparedOf beginOf
     askedOf askedAt adjustedBy adjustedOf
     innerSizeOf extentBy extentOf
-    heardOf turnedOf stickOf showFactorOf turnBar barOf settleOf
+    heardOf turnedOf stickOf showFactorOf turnBar barOf finalClampOf
     endedBy finishedOf axisEndedOf shrunkRectOf endOf isPressBlocked
     isHandleFinite isOutcomeFinite isAnswerFinite
     nextState wheelDeltaLeft scrollDeltaLeft outcomeOf answerOf

@@ -9,6 +9,7 @@ use lib.Ieee.{Float, binary32, eq, ne}
 use Rattle.numbers.specs.Table.{Table}
 use Rattle.numbers.specs.F32 as F32
 use Rattle.numbers.specs.Scalar.{isFinite}
+use Rattle.numbers.specs.declared.range.Rangef.{Rangef}
 use Rattle.axis.specs.Wheel.{wheelOf}
 use Rattle.axis.specs.declared.physics.AxisPhysics.{AxisPhysics}
 use Rattle.axis.specs.declared.wheel.WheelScroll.{WheelScroll}
@@ -21,17 +22,20 @@ use Rattle.area.specs.Checks.{refusalOf}
 use Rattle.area.specs.Geometry.{pickOf}
 use Rattle.area.specs.Adjust.{requestAt, viewOf, askedBy, askedOf, askedAt, movedBy, unadjusted, adjustedBy, adjustedOf}
 use Rattle.area.specs.WheelTurn.{wheelScrollOf, wheelPhysicsOf, taken, untaken, unheard, turnedBy, turnedOf}
-use Rattle.area.specs.Handle.{showFactorOf}
-use Rattle.area.specs.Bar.{noResponse}
-use Rattle.area.specs.End.{endedBy, finishedOf, axisEndedOf, endOf}
+use Rattle.area.specs.Handle.{showFactorOf, handleOf}
+use Rattle.area.specs.Press.{pressOf}
+use Rattle.area.specs.Bar.{noResponse, hiddenBar, shownBar, turnBar, barOf}
+use Rattle.area.specs.End.{endedBy, finishedOf, axisEndedOf, endOf, isPressBlocked}
 use Rattle.area.specs.Steps.{begunAt, endedAt}
 use Rattle.area.specs.Moved.{wordOn, isOtherThanZero, isMovedByWords, isSomePos2, isDragHeeded, isPressHeeded, isMovedIn, isMoved, MovesAreNamed}
 use Rattle.area.specs.declared.prepared.AxisBefore.{AxisBefore}
 use Rattle.area.specs.declared.frame.Frame.{Frame}
 use Rattle.area.specs.declared.frame.MaybePos2.{MaybePos2}
+use Rattle.area.specs.declared.frame.BarResponse.{BarResponse}
 use Rattle.area.specs.declared.frame.MaybeScrollTarget.{MaybeScrollTarget}
 use Rattle.area.specs.declared.frame.ScrollAnimation.{ScrollAnimation}
 use Rattle.area.specs.declared.state.State.{State}
+use Rattle.area.specs.declared.state.StartOffset.{StartOffset}
 use Rattle.area.specs.declared.prepared.AxisMotion.{AxisMotion}
 use Rattle.area.specs.declared.prepared.AxisSpace.{AxisSpace}
 use Rattle.area.specs.declared.prepared.AxisBegun.{AxisBegun}
@@ -42,6 +46,9 @@ use Rattle.area.specs.declared.adjust.AskedDelta.{AskedDelta}
 use Rattle.area.specs.declared.adjust.AxisView.{AxisView}
 use Rattle.area.specs.declared.«wheel_turn».WheelHeard.{WheelHeard}
 use Rattle.area.specs.declared.«wheel_turn».Turned.{Turned}
+use Rattle.area.specs.declared.handle.BarSpace.{BarSpace}
+use Rattle.area.specs.declared.handle.Track.{Track}
+use Rattle.area.specs.declared.bar.Barred.{Barred}
 use Rattle.area.specs.declared.end.Extents.{Extents}
 use Rattle.area.proofs.TestLaws as Test
 use Rattle.area.proofs.TestLaws.{neither, not-left, not-right, fails-left, fails-right, turned-true, turned-false, either}
@@ -250,3 +257,29 @@ stays-by-words-x = by-words 0 (moves-are-named .0) stays-x
 
 pub stays-by-words-y : StaysOnEnd (λ _ _. isMovedByWords) 1
 stays-by-words-y = by-words 1 (moves-are-named .1) stays-y
+
+-- ---- and on neither axis is a press refused with 7
+press-unblocked : (m : AxisMotion) (t : Track) (handle : Rangef) (stored : StartOffset) (p : MaybePos2) (d : ℕ) → isSomePos2 p ≡ false
+    → pressOf m t handle stored p d .«is_press_blocked» ≡ false
+unfolding pressOf
+press-unblocked m t handle stored MaybePos2.Nothing d h = refl
+press-unblocked m t handle stored (MaybePos2.Some p) d h = absurd (true≢false h)
+
+turn-unblocked : (m : AxisMotion) (t : Track) (showFactor : Float) (rubberBanding : Bool) (stored : StartOffset) (response : BarResponse) (d : ℕ)
+    → isSomePos2 (response .press) ≡ false → turnBar m t showFactor rubberBanding stored response d .«is_press_blocked» ≡ false
+unfolding turnBar shownBar
+turn-unblocked m t showFactor rubberBanding stored response d h =
+    either (λ (b : Barred). b .«is_press_blocked» ≡ false) (eq showFactor F32.zero) (hiddenBar m stored) (shownBar m t rubberBanding stored response d) refl
+    (press-unblocked m t (handleOf t (m .offset)) stored (response .press) d h)
+
+bar-unblocked : (f : Frame) (d e : ℕ) (space : BarSpace) (showScroll rubberBanding : Bool) (stored : StartOffset) (m : AxisMotion)
+    → isSomePos2 (getD (f .host .bars) d noResponse .press) ≡ false → barOf f d e space showScroll rubberBanding stored m .«is_press_blocked» ≡ false
+unfolding barOf
+bar-unblocked f d e space showScroll rubberBanding stored m h = turn-unblocked m _ _ rubberBanding stored (getD (f .host .bars) d noResponse) d h
+
+pub unblocked : (table : Table) (S : State) (bytes : List ℕ) → isMovedByWords bytes 0 ≡ false → isMovedByWords bytes 1 ≡ false
+    → isPressBlocked (endedAt table S bytes) ≡ false
+unfolding isPressBlocked endedAt endOf axisEndedOf finishedOf endedBy frameOf hostOf barResponseNo
+unblocked table S bytes x y =
+    neither _ _ (bar-unblocked (frameOf bytes) 0 1 _ _ _ _ _ (no-point bytes (At.barX + 2) (unnamed bytes 0 x .unpressed)))
+    (bar-unblocked (frameOf bytes) 1 0 _ _ _ _ _ (no-point bytes (At.barY + 2) (unnamed bytes 1 y .unpressed)))

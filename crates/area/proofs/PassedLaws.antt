@@ -6,7 +6,7 @@ use mathlib.Core.List.{List}
 use Prim.Native.Nat.{ℕ, zero, suc, _+_, _<_, _≤_}
 use native.Mathlib.Nat.{eq-or-lt-of-le}
 use native.Mathlib.Omega.{arith}
-use borrow.Author.Tests.{eqb-true, not-false}
+use borrow.Author.Tests.{not-false}
 use lib.Dec.{eqb}
 use lib.ListN.{length}
 use lib.Ieee.{Float, binary64, ofBits, lt, le}
@@ -21,7 +21,7 @@ use Rattle.area.specs.Checks.{isHeeded, shows3, shows4, isShown, showsNo
 use Rattle.area.specs.Begin.{tenth, dtOf}
 use Rattle.area.specs.Corners.{FrameTimesHold}
 use Rattle.area.specs.declared.state.State.{State}
-use Rattle.area.proofs.TestLaws.{not-left, not-right, either}
+use Rattle.area.proofs.TestLaws.{not-left, not-right, either, both-zero}
 use Rattle.area.proofs.OrderLaws.{of-not-below}
 
 -- ---- none of checks 2 to 5 has shown
@@ -38,27 +38,25 @@ none-shows k s (suc n) m h l =
 abbrev firstOf : Bool → Bool → Bool → Bool → Bool → ℕ
 firstOf long two three four five = cond (not long) 1 (cond two 2 (cond three 3 (cond four 4 (cond five 5 0))))
 
-none-first : (long two three four five : Bool) → firstOf long two three four five ≡ 0 → (three ≡ false) × (four ≡ false)
+none-first : (long two three four five : Bool) → firstOf long two three four five ≡ 0
+    → (two ≡ false) × (three ≡ false) × (four ≡ false) × (five ≡ false)
 none-first false a b c d h = absurd (omega (arith, h))
 none-first true true b c d h = absurd (omega (arith, h))
 none-first true false true c d h = absurd (omega (arith, h))
 none-first true false false true d h = absurd (omega (arith, h))
-none-first true false false false d h = (refl, refl)
+none-first true false false false true h = absurd (omega (arith, h))
+none-first true false false false false h = (refl, refl, refl, refl)
 
-frame-unrefused : (bytes : List ℕ) (S : State) → refusalOf bytes S ≡ 0 → frameRefusal bytes ≡ 0
+-- of a frame that no check turns back, and of the state
+pub unrefused : (bytes : List ℕ) (S : State) → refusalOf bytes S ≡ 0 → (frameRefusal bytes ≡ 0) × (stateRefusal S ≡ 0)
 unfolding refusalOf
-frame-unrefused bytes S h = go (eqb (frameRefusal bytes) 0) refl h
-  where
-    go : (t : Bool) → eqb (frameRefusal bytes) 0 ≡ t → cond t (stateRefusal S) (frameRefusal bytes) ≡ 0 → frameRefusal bytes ≡ 0
-    go true k e = eqb-true (frameRefusal bytes) 0 k
-    go false k e = e
+unrefused bytes S h = both-zero (frameRefusal bytes) (stateRefusal S) _ refl h
 
--- 3 and 4
-unshown : (bytes : List ℕ) (S : State) → refusalOf bytes S ≡ 0 → (anyShows 3 bytes 104 ≡ false) × (anyShows 4 bytes 104 ≡ false)
+-- none of 2 to 5
+pub unshown : (bytes : List ℕ) → frameRefusal bytes ≡ 0
+    → (anyShows 2 bytes 104 ≡ false) × (anyShows 3 bytes 104 ≡ false) × (anyShows 4 bytes 104 ≡ false) × (anyShows 5 bytes 104 ≡ false)
 unfolding frameRefusal
-unshown bytes S h =
-    none-first (eqb (length bytes) 416) (anyShows 2 bytes 104) (anyShows 3 bytes 104) (anyShows 4 bytes 104) (anyShows 5 bytes 104)
-    (frame-unrefused bytes S h)
+unshown bytes h = none-first (eqb (length bytes) 416) (anyShows 2 bytes 104) (anyShows 3 bytes 104) (anyShows 4 bytes 104) (anyShows 5 bytes 104) h
 
 within-limit : (x : Float) → exceedsLimit x ≡ false → isFinite x ≡ true
 unfolding exceedsLimit
@@ -73,17 +71,17 @@ pub multiplier-finite : (bytes : List ℕ) (S : State) → refusalOf bytes S ≡
     → (isFinite (numberNo bytes At.wheelScrollMultiplier) ≡ true) × (isFinite (numberNo bytes (At.wheelScrollMultiplier + 1)) ≡ true)
 unfolding showsNo isHeeded isShown shows3 rowNo rowAt rows layout
 multiplier-finite bytes S h =
-    let third = unshown bytes S h .0 in
+    let third = unshown bytes (unrefused bytes S h .0) .1 in
     (number-row _ (none-shows 3 bytes 104 21 third (omega arith)), number-row _ (none-shows 3 bytes 104 22 third (omega arith)))
 
 -- ---- stable_dt is finite and not below 0, and so dt is not below 0
 dt-finite : (bytes : List ℕ) (S : State) → refusalOf bytes S ≡ 0 → isFinite (numberNo bytes At.stableDt) ≡ true
 unfolding showsNo isHeeded isShown shows3 rowNo rowAt rows layout
-dt-finite bytes S h = number-row _ (none-shows 3 bytes 104 50 (unshown bytes S h .0) (omega arith))
+dt-finite bytes S h = number-row _ (none-shows 3 bytes 104 50 (unshown bytes (unrefused bytes S h .0) .1) (omega arith))
 
 dt-not-negative : (bytes : List ℕ) (S : State) → refusalOf bytes S ≡ 0 → lt (numberNo bytes At.stableDt) F32.zero ≡ false
 unfolding showsNo isHeeded isShown shows4 rowNo rowAt rows layout
-dt-not-negative bytes S h = not-left (lt (numberNo bytes At.stableDt) F32.zero) false (none-shows 4 bytes 104 50 (unshown bytes S h .1) (omega arith))
+dt-not-negative bytes S h = not-left (lt (numberNo bytes At.stableDt) F32.zero) false (none-shows 4 bytes 104 50 (unshown bytes (unrefused bytes S h .0) .2) (omega arith))
 
 zero-finite : isFinite F32.zero ≡ true
 unfolding isFinite ofBits

@@ -20,7 +20,7 @@ use Rattle.area.specs.AxisPhysics.{physicsOf}
 use Rattle.area.specs.Drive.{beforeOf, openedOf, draggedOffset, draggedTo, leftAlone, draggedOf, steppedOf, drivenOf}
 use Rattle.area.specs.Begin.{lastPhysicsOf, drivenFrom, begunFrom, axisBegunOf, preparedOf, beginOf}
 use Rattle.area.specs.WheelTurn.{wheelPhysicsOf, wheelScrollOf, taken, untaken, unheard, turnedBy, turnedOf}
-use Rattle.area.specs.Settle.{settleOf}
+use Rattle.area.specs.FinalClamp.{finalClampOf}
 use Rattle.area.specs.End.{endedBy, finishedOf, axisEndedOf, endOf}
 use Rattle.area.specs.PutOut.{nextState}
 use Rattle.area.specs.Steps.{begunAt, endedAt, stepAt, isAccepted}
@@ -114,20 +114,20 @@ turned-unbanded f d before space extent wheel m rubberBanding off p =
     p
 
 -- ---- the final clamp
-settled-within : (m : AxisMotion) (rubberBanding : Bool) (maxOffset : Float) (stick adjusted : Bool) → rubberBanding ≡ false
+final-within : (m : AxisMotion) (rubberBanding : Bool) (maxOffset : Float) (stick adjusted : Bool) → rubberBanding ≡ false
     → isFinite maxOffset ≡ true
-    → isFinite (settleOf m rubberBanding maxOffset stick adjusted .offset) ≡ true
-    → IsWithin (settleOf m rubberBanding maxOffset stick adjusted .offset) maxOffset
-unfolding settleOf pickOf
-settled-within m true maxOffset stick adjusted p n q = absurd (true≢false p)
-settled-within m false maxOffset stick adjusted p n q = clamped-within (m .offset) maxOffset n q
+    → isFinite (finalClampOf m rubberBanding maxOffset stick adjusted .offset) ≡ true
+    → IsWithin (finalClampOf m rubberBanding maxOffset stick adjusted .offset) maxOffset
+unfolding finalClampOf pickOf
+final-within m true maxOffset stick adjusted p n q = absurd (true≢false p)
+final-within m false maxOffset stick adjusted p n q = clamped-within (m .offset) maxOffset n q
 
 -- one axis through `end`
 finished-within : (f : Frame) (d e : ℕ) (before : AxisBefore) (x : Extents) (adjusted : Adjusted) (turned : Turned) → TurnedUnbanded turned
     → isFinite (x .this .«max_offset») ≡ true
     → isFinite (finishedOf f d e before x adjusted turned .offset) ≡ true → IsWithin (finishedOf f d e before x adjusted turned .offset) (x .this .«max_offset»)
 unfolding finishedOf endedBy
-finished-within f d e before x adjusted turned p n q = settled-within _ (turned .«rubber_banding») (x .this .«max_offset») _ _ p n q
+finished-within f d e before x adjusted turned p n q = final-within _ (turned .«rubber_banding») (x .this .«max_offset») _ _ p n q
 
 ended-within : (f : Frame) (d e : ℕ) (before : AxisBefore) (space : AxisSpace) (x : Extents) (wheel : WheelHeard) (b : AxisBegun)
     → f .style .kinetic .«rubber_band» ≡ false → BegunUnbanded b

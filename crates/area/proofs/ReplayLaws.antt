@@ -4,45 +4,47 @@ use native.Mathlib.Numerals.{add-one}
 use native.Mathlib.Omega.{arith}
 use mathlib.Core.Path.{_≡_, refl, sym, ap, subst, _∙_}
 use mathlib.Core.Bool.{Bool, true, false, cond}
-use mathlib.Core.List.{List, [], _∷_, _++_, map, append-assoc, append-nil}
+use mathlib.Core.List.{List, [], _∷_, _++_, append-assoc, append-nil}
 use lib.Dec.{eqb}
 use lib.ListN.{length, take, drop, getD, set, length-append, drop-of-length-le}
 use lib.Seq.{drop-cons}
 use Rattle.numbers.specs.Table.{tableAt}
 use Rattle.area.specs.State.{default}
 use Rattle.area.specs.Call.{callUnder}
-use Rattle.area.specs.Steps.{Fed, stepAt, answersFrom, stateFrom}
-use Rattle.area.specs.Lists.{byValue, lent, fedOf, Run}
-use Rattle.area.specs.Replay.{frameLength, callsUpTo, callsOf, feedOf, Part, refusalsFrom, overlay, Replayed}
+use Rattle.area.specs.Steps.{stepAt, stateFrom}
+use Rattle.area.specs.Lists.{Call, byValue, lent, feedFrom, toldFrom, Run}
+use Rattle.area.specs.Replay.{frameLength, callBy, callsUpTo, callsOf, Part, refusalsFrom, overlay, Replayed}
 use Rattle.area.specs.declared.state.State.{State}
 use Rattle.area.specs.declared.outcome.Answer.{Answer}
 use Rattle.area.proofs.CallLaws.{step-is-call}
 use Rattle.area.proofs.ListLaws.{run-of, all-lists}
 
--- ---- the frames of at most n calls
-abbrev pub feed : ℕ → List ℕ → List Fed
-feed n bytes = map fedOf (callsUpTo n bytes)
+-- ---- the first call of a list
+-- its frame stands between the flag and the frame's end, and the rest begins there
+calls-next : (calls : List ℕ) (at end n : ℕ) → at < length calls → Part calls (at + 1) end
+    → callsUpTo (suc n) (drop at calls) ≡ callBy (getD calls at 0) (take (end - (at + 1)) (drop (at + 1) calls)) ∷ callsUpTo n (drop end calls)
+calls-next calls at end n h p =
+    ap (callsUpTo (suc n)) (drop-cons calls at 0 h)
+    ∙ ap (λ (k : ℕ). callBy (getD calls at 0) (take frameLength (drop k calls)) ∷ callsUpTo n (drop frameLength (drop k calls))) (sym (add-one at))
+    ∙ (λ i. callBy (getD calls at 0) (sym (p .frame) i) ∷ callsUpTo n (sym (p .rest) i))
 
--- by table T
-abbrev byT : List ℕ → Fed
-byT bytes = record { table = tableAt; bytes = bytes }
+calls-none : (n : ℕ) → callsUpTo n [] ≡ []
+calls-none zero = refl
+calls-none (suc n) = refl
 
-either-form : (isByValue : Bool) (bytes : List ℕ) → fedOf (cond isByValue (byValue tableAt bytes) (lent tableAt bytes)) ≡ byT bytes
-either-form true bytes = refl
-either-form false bytes = refl
+-- where calls lead
+abbrev reached : State → List Call → State
+reached S calls = stateFrom S (feedFrom S calls)
 
--- the first frame stands between the flag and the frame's end, and the rest begins there
-feed-next : (calls : List ℕ) (at end n : ℕ) → at < length calls → Part calls (at + 1) end
-    → feed (suc n) (drop at calls) ≡ byT (take (end - (at + 1)) (drop (at + 1) calls)) ∷ feed n (drop end calls)
-feed-next calls at end n h p =
-    ap (feed (suc n)) (drop-cons calls at 0 h)
-    ∙ ap (λ (b : Fed). b ∷ feed n (drop frameLength (drop (suc at) calls))) (either-form (eqb (getD calls at 0) 0) _)
-    ∙ ap (λ (k : ℕ). byT (take frameLength (drop k calls)) ∷ feed n (drop frameLength (drop k calls))) (sym (add-one at))
-    ∙ (λ i. byT (sym (p .frame) i) ∷ feed n (sym (p .rest) i))
+-- either form of a call is one step
+record OneStep (S : State) (frame : List ℕ) (call : Call) (rest : List Call) : Type 0 where
+  pub state : reached S (call ∷ rest) ≡ reached (stepAt tableAt S frame .state) rest
+  pub refusals : refusalsFrom S (call ∷ rest) ≡ stepAt tableAt S frame .outcome .refusal ∷ refusalsFrom (stepAt tableAt S frame .state) rest
 
-feed-none : (n : ℕ) → feed n [] ≡ []
-feed-none zero = refl
-feed-none (suc n) = refl
+one-step : (S : State) (isByValue : Bool) (frame : List ℕ) (rest : List Call)
+    → OneStep S frame (cond isByValue (byValue tableAt frame) (lent tableAt frame)) rest
+one-step S true frame rest = record { state = refl; refusals = refl }
+one-step S false frame rest = record { state = refl; refusals = refl }
 
 -- ---- what is laid over a list
 length-overlay : (xs places : List ℕ) → length (overlay xs places) ≡ length places
@@ -65,8 +67,8 @@ pub record Upto (calls before : List ℕ) (state : State) (at i : ℕ) (now : Li
   pub enough : length calls - at ≤ fuel
   pub ahead : i ≤ at
   pub long : length done ≡ i
-  pub same-state : stateFrom state (feed fuel (drop at calls)) ≡ stateFrom default (feedOf calls)
-  pub same-refusals : done ++ refusalsFrom state (feed fuel (drop at calls)) ≡ refusalsFrom default (feedOf calls)
+  pub same-state : reached state (callsUpTo fuel (drop at calls)) ≡ reached default (callsOf calls)
+  pub same-refusals : done ++ refusalsFrom state (callsUpTo fuel (drop at calls)) ≡ refusalsFrom default (callsOf calls)
   pub here : now ≡ overlay done before
 
 pub same-length-at : {calls before : List ℕ} {state : State} {at i : ℕ} {now : List ℕ} → Upto calls before state at i now
@@ -74,7 +76,7 @@ pub same-length-at : {calls before : List ℕ} {state : State} {at i : ℕ} {now
 same-length-at u = ap length (u .here) ∙ length-overlay (u .done) _
 
 pub begins : (calls before : List ℕ) (state : State) → state ≡ default → Upto calls before state 0 0 before
-unfolding feedOf callsOf
+unfolding callsOf
 begins calls before state e =
     subst
     (λ (s : State). Upto calls before s 0 0 before)
@@ -105,17 +107,20 @@ module _ (calls before : List ℕ) (state : State) (at i end : ℕ) (now : List 
       none : at < length calls → length calls - at ≤ u .fuel → u .fuel ≡ 0 → ⊥
       none h g k = omega arith
   next h p (suc n) u k =
-      let f : feed (u .fuel) (drop at calls) ≡ byT frame ∷ feed n (drop end calls) =
-      ap (λ (m : ℕ). feed m (drop at calls)) k ∙ feed-next calls at end n h p in
+      let rest = callsUpTo n (drop end calls) in
+      let f : callsUpTo (u .fuel) (drop at calls) ≡ callBy (getD calls at 0) frame ∷ rest =
+      ap (λ (m : ℕ). callsUpTo m (drop at calls)) k ∙ calls-next calls at end n h p in
+      let step = one-step state (eqb (getD calls at 0) 0) frame rest in
       record {
         fuel = n;
         done = u .done ++ refusal ∷ [];
         enough = omega (arith, p .low, u .enough, k);
         ahead = omega (arith, p .low, u .ahead);
         long = omega (arith, length-append (u .done) (refusal ∷ []), u .long);
-        same-state = ap (stateFrom state) (sym f) ∙ u .same-state;
+        same-state = sym (step .state) ∙ ap (reached state) (sym f) ∙ u .same-state;
         same-refusals =
-            append-assoc (u .done) (refusal ∷ []) _ ∙ ap (λ (bs : List Fed). u .done ++ refusalsFrom state bs) (sym f) ∙ u .same-refusals;
+            append-assoc (u .done) (refusal ∷ []) _ ∙ ap (λ (l : List ℕ). u .done ++ l) (sym (step .refusals))
+            ∙ ap (λ (l : List Call). u .done ++ refusalsFrom state l) (sym f) ∙ u .same-refusals;
         here = (λ j. set (u .here j) (sym (u .long) j) refusal) ∙ put-next (u .done) before refusal;
       }
 
@@ -133,15 +138,14 @@ module _ (calls before : List ℕ) (state : State) (at i end : ℕ) (now : List 
 
 pub finishes : (calls before : List ℕ) (state : State) (at i : ℕ) (now : List ℕ) → length calls ≤ at → Upto calls before state at i now
     → Replayed calls state before now
-unfolding feedOf
 finishes calls before state at i now h u =
-    let f : feed (u .fuel) (drop at calls) ≡ [] = ap (feed (u .fuel)) (drop-of-length-le calls h) ∙ feed-none (u .fuel) in
-    let all : u .done ≡ refusalsFrom default (feedOf calls) =
-    sym (append-nil (u .done)) ∙ ap (λ (bs : List Fed). u .done ++ refusalsFrom state bs) (sym f) ∙ u .same-refusals in
-    let same : state ≡ stateFrom default (feedOf calls) = ap (stateFrom state) (sym f) ∙ u .same-state in
-    let ran = subst (Run default (callsOf calls) (answersFrom default (feedOf calls))) (sym same) (run-of default (callsOf calls)) in
+    let f : callsUpTo (u .fuel) (drop at calls) ≡ [] = ap (callsUpTo (u .fuel)) (drop-of-length-le calls h) ∙ calls-none (u .fuel) in
+    let all : u .done ≡ refusalsFrom default (callsOf calls) =
+    sym (append-nil (u .done)) ∙ ap (λ (l : List Call). u .done ++ refusalsFrom state l) (sym f) ∙ u .same-refusals in
+    let same : state ≡ reached default (callsOf calls) = ap (reached state) (sym f) ∙ u .same-state in
+    let ran = subst (Run default (callsOf calls) (toldFrom default (callsOf calls))) (sym same) (run-of default (callsOf calls)) in
     record {
       ran = ran;
-      whole = all-lists .whole (callsOf calls) (answersFrom default (feedOf calls)) state ran;
+      whole = all-lists .whole (callsOf calls) (toldFrom default (callsOf calls)) state ran;
       same-refusals = u .here ∙ ap (λ (xs : List ℕ). overlay xs before) all;
     }

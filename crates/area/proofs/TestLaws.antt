@@ -1,6 +1,9 @@
 -- What a test tells of its parts, and a choice by a test of its arms. Assumes nothing.
 use mathlib.Core.Path.{_≡_, refl, sym, _∙_}
 use mathlib.Core.Bool.{Bool, true, false, cond, _&&_, _||_, true≢false, false≢true}
+use Prim.Native.Nat.{ℕ}
+use borrow.Author.Tests.{eqb-true, eq-eqb}
+use lib.Dec.{eqb}
 
 -- ---- "or"
 pub or-left : (p q : Bool) → p ≡ true → (p || q) ≡ true
@@ -69,3 +72,8 @@ taken P t x y h p = chosen P t x y (λ k. p) (λ k. absurd (true≢false (sym h 
 
 pub left : {A : Type 0} (P : A → Type 0) (t : Bool) (x y : A) → t ≡ false → P y → P (cond t x y)
 left P t x y h q = chosen P t x y (λ k. absurd (true≢false (sym k ∙ h))) (λ k. q)
+
+-- ---- a number k, or where it is 0 a number n
+pub both-zero : (k n : ℕ) (t : Bool) → eqb k 0 ≡ t → cond t n k ≡ 0 → (k ≡ 0) × (n ≡ 0)
+both-zero k n true e h = (eqb-true k 0 e, h)
+both-zero k n false e h = absurd (true≢false (sym (eq-eqb k 0 h) ∙ e))

@@ -10,7 +10,7 @@ use Rattle.area.specs.Extent.{extentOf}
 use Rattle.area.specs.WheelTurn.{heardOf, turnedOf}
 use Rattle.area.specs.Stick.{stickOf}
 use Rattle.area.specs.Bar.{barOf}
-use Rattle.area.specs.Settle.{settleOf}
+use Rattle.area.specs.FinalClamp.{finalClampOf}
 use Rattle.area.specs.declared.state.State.{State}
 use Rattle.area.specs.declared.frame.Frame.{Frame}
 use Rattle.area.specs.declared.prepared.AxisSpace.{AxisSpace}
@@ -24,7 +24,7 @@ use Rattle.area.specs.declared.«wheel_turn».WheelHeard.{WheelHeard}
 use Rattle.area.specs.declared.«wheel_turn».Turned.{Turned}
 use Rattle.area.specs.declared.handle.BarSpace.{BarSpace}
 use Rattle.area.specs.declared.bar.Barred.{Barred}
-use Rattle.area.specs.declared.settle.Settled.{Settled}
+use Rattle.area.specs.declared.«final_clamp».FinalClamp.{FinalClamp}
 use Rattle.area.specs.declared.end.AxisEnded.{AxisEnded}
 use Rattle.area.specs.declared.end.Extents.{Extents}
 use Rattle.area.specs.declared.end.Ended.{Ended}
@@ -52,17 +52,17 @@ module _ (f : Frame) (d e : ℕ) (before : AxisBefore) (x : Extents) (adjusted :
   abbrev pub barredStage : Barred
   barredStage = barOf f d e (barSpaceOf x) showStage (turned .«rubber_banding») (before .press) stuckStage
 
-  abbrev pub settledStage : Settled
-  settledStage =
-      settleOf (barredStage .motion) (turned .«rubber_banding») (x .this .«max_offset») (flag (f .settings .«stick_to_end») d) (adjusted .«had_explicit_scroll_adjustment»)
+  abbrev pub finalStage : FinalClamp
+  finalStage =
+      finalClampOf (barredStage .motion) (turned .«rubber_banding») (x .this .«max_offset») (flag (f .settings .«stick_to_end») d) (adjusted .«had_explicit_scroll_adjustment»)
 
 -- what the stages leave
-unfoldable pub endedBy : Bool → Turned → Bool → Barred → Settled → AxisEnded
-endedBy explicit turned show barred settled = record {
-  offset = settled .offset;
+unfoldable pub endedBy : Bool → Turned → Bool → Barred → FinalClamp → AxisEnded
+endedBy explicit turned show barred last = record {
+  offset = last .offset;
   vel = barred .motion .vel;
   «offset_target» = barred .motion .«offset_target»;
-  «scroll_stuck_to_end» = settled .«scroll_stuck_to_end»;
+  «scroll_stuck_to_end» = last .«scroll_stuck_to_end»;
   «bounced_this_momentum» = turned .«bounced_this_momentum»;
   press = barred .press;
   «scroll_bar_interaction» = barred .«scroll_bar_interaction»;
@@ -76,7 +76,7 @@ endedBy explicit turned show barred settled = record {
 -- sticking, bars, final clamp, stuck flags
 unfoldable pub finishedOf : Frame → ℕ → ℕ → AxisBefore → Extents → Adjusted → Turned → AxisEnded
 finishedOf f d e before x adjusted turned =
-    endedBy (adjusted .«had_explicit_scroll_adjustment») turned (showStage f d e before x adjusted turned) (barredStage f d e before x adjusted turned) (settledStage f d e before x adjusted turned)
+    endedBy (adjusted .«had_explicit_scroll_adjustment») turned (showStage f d e before x adjusted turned) (barredStage f d e before x adjusted turned) (finalStage f d e before x adjusted turned)
 
 -- the whole of one axis
 unfoldable pub axisEndedOf : Frame → ℕ → ℕ → AxisBefore → AxisSpace → Extents → WheelHeard → AxisBegun → AxisEnded

@@ -6,8 +6,8 @@ use mathlib.Core.Bool.{Bool, cond}
 use mathlib.Core.List.{List, [], _∷_}
 use lib.Dec.{eqb}
 use lib.ListN.{length}
-use lib.Ieee.{Float, binary32, binary64, ofBits}
-use Rattle.words.specs.Words.{wordAt}
+use lib.Ieee.{Float, binary32, binary64, ofBits, toBits}
+use Rattle.words.specs.Words.{wordAt, longWords}
 use Rattle.numbers.specs.declared.shape.Align.{Align}
 use Rattle.numbers.specs.declared.shape.Pos2.{Pos2}
 use Rattle.numbers.specs.declared.shape.Rect.{Rect}
@@ -53,6 +53,10 @@ flagNo s n = eqb (wordNo s n) 1
 -- "time (f64, low word first)"
 unfoldable pub timeNo : List ℕ → ℕ → Float
 timeNo s n = ofBits binary64 (wordNo s (n + 1) * 4294967296 + wordNo s n)
+
+-- as it is written
+abbrev pub timeWords : Float → List ℕ
+timeWords t = longWords (toBits binary64 t)
 
 -- ---- pairs, points, rectangles, ranges
 unfoldable pub pairNo : List ℕ → ℕ → List Float

@@ -21,13 +21,14 @@ pub mod Stick
 pub mod Handle
 pub mod Press
 pub mod Bar
-pub mod Settle
+pub mod FinalClamp
 pub mod End
 pub mod Outcome
 pub mod PutOut
 pub mod Call
 pub mod Steps
 pub mod Moved
+pub mod SettlingRun
 pub mod Listing
 pub mod Lists
 pub mod WithoutInput

@@ -1,8 +1,9 @@
--- Demand 3: "one claim about the whole list, not one for each call", in which each call has the table that it uses.
+-- Demand 3: "one claim about the whole list, not one for each call", in which each call has the table that it uses, and settling runs
+-- stand among the frames.
 use Prim.Native.Nat.{ℕ, _+_}
 use mathlib.Core.Path.{_≡_}
 use mathlib.Core.Bool.{Bool, true, false}
-use mathlib.Core.List.{List, [], _∷_, map}
+use mathlib.Core.List.{List, [], _∷_, _++_}
 use lib.Ieee.{Float, le, eq}
 use Rattle.numbers.specs.Table.{Table}
 use Rattle.numbers.specs.F32.{zero}
@@ -12,12 +13,14 @@ use Rattle.area.specs.State.{clampedOffset}
 use Rattle.area.specs.Layout as At
 use Rattle.area.specs.Frame.{wordNo}
 use Rattle.area.specs.Call.{callUnder}
-use Rattle.area.specs.Steps.{Fed, endedAt, answersFrom, stateFrom, acceptedFrom, isAccepted}
+use Rattle.area.specs.Steps.{Fed, endedAt, stepAt, stepFed, stateFrom, isAccepted, acceptedFrom}
 use Rattle.area.specs.Moved.{extentOn, isMoved, isMovedByWords}
+use Rattle.area.specs.SettlingRun.{settleUnder, framesOf, settledBy}
 use Rattle.area.specs.Listing.{ListingShown}
 use Rattle.area.specs.declared.state.State.{State}
 use Rattle.area.specs.declared.outcome.Outcome.{Outcome}
 use Rattle.area.specs.declared.outcome.Answer.{Answer}
+use Rattle.area.specs.declared.«settling_run».Settled.{Settled}
 
 -- ---- what the calls promise, under the table that each uses: their `ensures`, as they stand
 
@@ -30,24 +33,55 @@ pub record LentSays (table : Table) (given : State) (bytes : List ℕ) (outcome 
   pub answers : outcome ≡ callUnder table given bytes .outcome
   pub leaves : left ≡ callUnder table given bytes .state
 
--- ---- a list of calls, in any mix of the two forms and of tables: "for each call the loaded table that it uses"
+-- a settling run: the equation, beside which its contract has what follows of every run
+abbrev pub SettleSays : Table → State → List ℕ → Float → ℕ → Settled → Type 0
+SettleSays table given bytes increment limit r = r ≡ settleUnder table given bytes increment limit
+
+-- ---- a list of calls, in any mix of the forms and of tables: "for each call the loaded table that it uses"
 pub data Call : Type 0 where
   byValue : Table → List ℕ → Call
   lent : Table → List ℕ → Call
+  settle : Table → List ℕ → Float → ℕ → Call
 
--- what the steps take of a call
-abbrev pub fedOf : Call → Fed
-fedOf (byValue table bytes) = record { table = table; bytes = bytes }
-fedOf (lent table bytes) = record { table = table; bytes = bytes }
+-- what a call answers
+pub data Told : Type 0 where
+  ofFrame : Answer → Told
+  ofRun : Settled → Told
 
 -- Run s calls answers t: from the state s the calls gave these answers and left t. Each call keeps its own promise and is given what
 -- the call before it returned or left.
-pub data Run : State → List Call → List Answer → State → Type 0 where
+pub data Run : State → List Call → List Told → State → Type 0 where
   ends : {s : State} → Run s [] [] s
-  returned : {table : Table} {s : State} {bytes : List ℕ} {r : Answer} {calls : List Call} {answers : List Answer} {t : State}
-      → FrameSays table s bytes r → Run (r .state) calls answers t → Run s (byValue table bytes ∷ calls) (r ∷ answers) t
-  left : {table : Table} {s : State} {bytes : List ℕ} {o : Outcome} {u : State} {calls : List Call} {answers : List Answer} {t : State}
-      → LentSays table s bytes o u → Run u calls answers t → Run s (lent table bytes ∷ calls) (record { state = u; outcome = o } ∷ answers) t
+  returned : {table : Table} {s : State} {bytes : List ℕ} {r : Answer} {calls : List Call} {answers : List Told} {t : State}
+      → FrameSays table s bytes r → Run (r .state) calls answers t → Run s (byValue table bytes ∷ calls) (ofFrame r ∷ answers) t
+  left : {table : Table} {s : State} {bytes : List ℕ} {o : Outcome} {u : State} {calls : List Call} {answers : List Told} {t : State}
+      → LentSays table s bytes o u → Run u calls answers t
+      → Run s (lent table bytes ∷ calls) (ofFrame (record { state = u; outcome = o }) ∷ answers) t
+  settled : {table : Table} {s : State} {bytes : List ℕ} {increment : Float} {limit : ℕ} {r : Settled} {calls : List Call} {answers : List Told}
+      {t : State} → SettleSays table s bytes increment limit r → Run (r .state) calls answers t
+      → Run s (settle table bytes increment limit ∷ calls) (ofRun r ∷ answers) t
+
+-- ---- the steps on a list of calls
+
+-- what they take of a call on the state S: its frame, or a run's frames in its place
+abbrev pub framesIn : State → Call → List Fed
+framesIn S (byValue table bytes) = record { table = table; bytes = bytes } ∷ []
+framesIn S (lent table bytes) = record { table = table; bytes = bytes } ∷ []
+framesIn S (settle table bytes increment limit) = framesOf table S bytes increment limit
+
+abbrev pub feedFrom : State → List Call → List Fed
+feedFrom S [] = []
+feedFrom S (call ∷ calls) = framesIn S call ++ feedFrom (stateFrom S (framesIn S call)) calls
+
+-- what they answer
+abbrev pub toldBy : State → Call → Told
+toldBy S (byValue table bytes) = ofFrame (stepAt table S bytes)
+toldBy S (lent table bytes) = ofFrame (stepAt table S bytes)
+toldBy S (settle table bytes increment limit) = ofRun (settledBy table S bytes increment limit)
+
+abbrev pub toldFrom : State → List Call → List Told
+toldFrom S [] = []
+toldFrom S (call ∷ calls) = toldBy S call ∷ toldFrom (stateFrom S (framesIn S call)) calls
 
 -- ---- the distances, which "hold under every table that loads, by an argument that never looks at its entries": here under every table
 
@@ -67,57 +101,49 @@ IsInRange table S bytes after d = (le zero (num (after .offset) d) ≡ true) × 
 abbrev pub IsOnEnd : Table → State → List ℕ → State → ℕ → Type 0
 IsOnEnd table S bytes after d = eq (num (clampedOffset after) d) (listEnd table S bytes d) ≡ true
 
--- ---- along the calls: of each, whether it was accepted, and the state after it
-pub record After : Type 0 where
-  pub accepted : Bool
-  pub state : State
-
-abbrev pub afterOf : Answer → After
-afterOf r = record { accepted = isAccepted r; state = r .state }
+-- ---- along the steps on a list of frames
 
 -- after each accepted frame with word 39 equal to 0 the stored offset is in its range, on both axes
-abbrev pub RangeAlong : State → List Fed → List After → Type 0
-RangeAlong S (fed ∷ rest) (r ∷ afters) =
-    (r .accepted ≡ true → wordNo (fed .bytes) At.kineticRubberBand ≡ 0
+abbrev pub RangeAlong : State → List Fed → Type 0
+RangeAlong S [] = Unit {0}
+RangeAlong S (fed ∷ rest) =
+    let r = stepFed S fed in
+    (isAccepted r ≡ true → wordNo (fed .bytes) At.kineticRubberBand ≡ 0
     → IsInRange (fed .table) S (fed .bytes) (r .state) 0 × IsInRange (fed .table) S (fed .bytes) (r .state) 1)
-    × RangeAlong (r .state) rest afters
-RangeAlong S [] [] = Unit {0}
-RangeAlong S [] (r ∷ afters) = ⊥
-RangeAlong S (fed ∷ rest) [] = ⊥
+    × RangeAlong (r .state) rest
 
 -- as long as every accepted frame sticks to the end on axis d and does not move it, the list shows its end after each of them
-abbrev pub EndAlong : (Table → State → List ℕ → ℕ → Bool) → ℕ → State → List Fed → List After → Type 0
-EndAlong moved d S (fed ∷ rest) (r ∷ afters) =
-    (r .accepted ≡ true → wordNo (fed .bytes) (At.stickToEnd + d) ≡ 1 → moved (fed .table) S (fed .bytes) d ≡ false
-    → IsOnEnd (fed .table) S (fed .bytes) (r .state) d × EndAlong moved d (r .state) rest afters)
-    × (r .accepted ≡ false → EndAlong moved d (r .state) rest afters)
-EndAlong moved d S [] [] = Unit {0}
-EndAlong moved d S [] (r ∷ afters) = ⊥
-EndAlong moved d S (fed ∷ rest) [] = ⊥
+abbrev pub EndAlong : (Table → State → List ℕ → ℕ → Bool) → ℕ → State → List Fed → Type 0
+EndAlong moved d S [] = Unit {0}
+EndAlong moved d S (fed ∷ rest) =
+    let r = stepFed S fed in
+    (isAccepted r ≡ true → wordNo (fed .bytes) (At.stickToEnd + d) ≡ 1 → moved (fed .table) S (fed .bytes) d ≡ false
+    → IsOnEnd (fed .table) S (fed .bytes) (r .state) d × EndAlong moved d (r .state) rest)
+    × (isAccepted r ≡ false → EndAlong moved d (r .state) rest)
 
 -- the distances that are zero
-pub record DistancesAlong (S : State) (frames : List Fed) (afters : List After) : Type 0 where
+pub record DistancesAlong (S : State) (frames : List Fed) : Type 0 where
   -- "with rubber band off the stored offset lies in the range"
-  pub in-range : RangeAlong S frames afters
+  pub in-range : RangeAlong S frames
   -- "a sticking axis that nobody moves shows the list's end": in the narrowest reading of a move, and in the one by words
-  pub on-end : EndAlong isMoved 0 S frames afters × EndAlong isMoved 1 S frames afters
-  pub on-end-by-words : EndAlong (λ _ _. isMovedByWords) 0 S frames afters × EndAlong (λ _ _. isMovedByWords) 1 S frames afters
+  pub on-end : EndAlong isMoved 0 S frames × EndAlong isMoved 1 S frames
+  pub on-end-by-words : EndAlong (λ _ _. isMovedByWords) 0 S frames × EndAlong (λ _ _. isMovedByWords) 1 S frames
 
 -- ---- the claim
 
 -- what holds of a list of calls from the state s, with their answers and the state t after them
-pub record Whole (s : State) (calls : List Call) (answers : List Answer) (t : State) : Type 0 where
+pub record Whole (s : State) (calls : List Call) (answers : List Told) (t : State) : Type 0 where
   -- "answers and state equal document 01's steps"
-  pub same-answers : answers ≡ answersFrom s (map fedOf calls)
-  pub same-state : t ≡ stateFrom s (map fedOf calls)
+  pub same-answers : answers ≡ toldFrom s calls
+  pub same-state : t ≡ stateFrom s (feedFrom s calls)
   -- "the accepted frames alone reach the same state"
-  pub accepted-alone : stateFrom s (acceptedFrom s (map fedOf calls)) ≡ t
-  -- the range and the end
-  pub distances : DistancesAlong s (map fedOf calls) (map afterOf answers)
+  pub accepted-alone : stateFrom s (acceptedFrom s (feedFrom s calls)) ≡ t
+  -- the range and the end, after every frame, those inside a run too
+  pub distances : DistancesAlong s (feedFrom s calls)
 
 -- of every list of calls that begins at s, whichever table each of them uses; each list has such a run, and the document's own frame meets
 -- what the laws ask
 pub record AllLists (s : State) : Type 0 where
-  pub whole : (calls : List Call) (answers : List Answer) (t : State) → Run s calls answers t → Whole s calls answers t
-  pub has-run : (calls : List Call) → Run s calls (answersFrom s (map fedOf calls)) (stateFrom s (map fedOf calls))
+  pub whole : (calls : List Call) (answers : List Told) (t : State) → Run s calls answers t → Whole s calls answers t
+  pub has-run : (calls : List Call) → Run s calls (toldFrom s calls) (stateFrom s (feedFrom s calls))
   pub listing-shown : (table : Table) → ListingShown table s

@@ -1,4 +1,4 @@
--- A list of calls in bytes: for each call a flag, 0 for a call by value and any other for a lent one, and the frame; the last frame
+-- A list of frame calls in bytes: for each call a flag, 0 for a call by value and any other for a lent one, and the frame; the last frame
 -- may be shorter. Every call is by table T.
 use Prim.Native.Nat.{ℕ, zero, suc, _≤_, _-_}
 use mathlib.Core.Path.{_≡_}
@@ -8,8 +8,7 @@ use lib.Dec.{eqb}
 use lib.ListN.{length, take, drop}
 use Rattle.numbers.specs.Table.{tableAt}
 use Rattle.area.specs.State.{default}
-use Rattle.area.specs.Steps.{Fed, answersFrom}
-use Rattle.area.specs.Lists.{Call, byValue, lent, fedOf, Run, Whole}
+use Rattle.area.specs.Lists.{Call, byValue, lent, Told, ofFrame, ofRun, toldFrom, Run, Whole}
 use Rattle.area.specs.declared.state.State.{State}
 
 abbrev pub frameLength : ℕ
@@ -28,10 +27,6 @@ callsUpTo (suc n) (by ∷ bytes) = callBy by (take frameLength bytes) ∷ callsU
 unfoldable pub callsOf : List ℕ → List Call
 callsOf bytes = callsUpTo (length bytes) bytes
 
--- what the steps are fed
-unfoldable pub feedOf : List ℕ → List Fed
-feedOf bytes = map fedOf (callsOf bytes)
-
 -- the frame that begins at `start` ends at `end`
 pub record Part (bytes : List ℕ) (start end : ℕ) : Type 0 where
   pub low : start ≤ end
@@ -39,8 +34,13 @@ pub record Part (bytes : List ℕ) (start end : ℕ) : Type 0 where
   pub frame : take (end - start) (drop start bytes) ≡ take frameLength (drop start bytes)
   pub rest : drop end bytes ≡ drop frameLength (drop start bytes)
 
-abbrev pub refusalsFrom : State → List Fed → List ℕ
-refusalsFrom S frames = map (λ r. r .outcome .refusal) (answersFrom S frames)
+-- what the steps refuse, call by call
+abbrev pub refusalIn : Told → ℕ
+refusalIn (ofFrame r) = r .outcome .refusal
+refusalIn (ofRun r) = r .refusal
+
+abbrev pub refusalsFrom : State → List Call → List ℕ
+refusalsFrom S calls = map refusalIn (toldFrom S calls)
 
 -- a list laid over the start of another, as far as there is room
 abbrev pub overlay : List ℕ → List ℕ → List ℕ
@@ -51,6 +51,6 @@ overlay (x ∷ xs) (y ∷ places) = x ∷ overlay xs places
 -- the calls in `bytes`, from a fresh state: they gave the steps' answers and left `state`; so all of demand 3 holds of them; and `after`
 -- is what `before` became
 pub record Replayed (bytes : List ℕ) (state : State) (before after : List ℕ) : Type 0 where
-  pub ran : Run default (callsOf bytes) (answersFrom default (feedOf bytes)) state
-  pub whole : Whole default (callsOf bytes) (answersFrom default (feedOf bytes)) state
-  pub same-refusals : after ≡ overlay (refusalsFrom default (feedOf bytes)) before
+  pub ran : Run default (callsOf bytes) (toldFrom default (callsOf bytes)) state
+  pub whole : Whole default (callsOf bytes) (toldFrom default (callsOf bytes)) state
+  pub same-refusals : after ≡ overlay (refusalsFrom default (callsOf bytes)) before

@@ -13,6 +13,8 @@ use crate::copies::copy_of_target;
 use crate::drive::before_of;
 use crate::extent::AxisExtent;
 use crate::extent::extent_of;
+use crate::final_clamp::FinalClamp;
+use crate::final_clamp::final_clamp_axis;
 use crate::geometry::shows_bar;
 use crate::handle::BarSpace;
 use crate::host_words;
@@ -21,8 +23,6 @@ use crate::prepared::AxisBegun;
 use crate::prepared::AxisSpace;
 use crate::prepared::Prepared;
 use crate::settings_words;
-use crate::settle::Settled;
-use crate::settle::settle_axis;
 use crate::state::OffsetTarget;
 use crate::state::StartOffset;
 use crate::state::State;
@@ -170,14 +170,14 @@ fn finish_axis(
         stored,
         stuck,
     );
-    let settled = settle_axis(
+    let last = final_clamp_axis(
         barred.motion,
         turned.rubber_banding,
         extents.this.max_offset,
         sticks,
         explicit,
     );
-    ended_of(explicit, turned, show, barred, settled)
+    ended_of(explicit, turned, show, barred, last)
 }
 
 fn ended_of(
@@ -185,19 +185,19 @@ fn ended_of(
     turned: Turned,
     show: bool,
     barred: Barred,
-    settled: Settled,
+    last: FinalClamp,
 ) -> AxisEnded
-    ensures { λ r. ⌜ r ≡ Spec.endedBy explicit turned show barred settled ⌝ }
+    ensures { λ r. ⌜ r ≡ Spec.endedBy explicit turned show barred last ⌝ }
 {
     let target = barred.motion.offset_target;
     let offset_target = copy_of_target(target);
     let press = barred.press;
     let handle = barred.handle;
     AxisEnded {
-        offset: settled.offset,
+        offset: last.offset,
         vel: barred.motion.vel,
         offset_target,
-        scroll_stuck_to_end: settled.scroll_stuck_to_end,
+        scroll_stuck_to_end: last.scroll_stuck_to_end,
         bounced_this_momentum: turned.bounced_this_momentum,
         press,
         scroll_bar_interaction: barred.scroll_bar_interaction,

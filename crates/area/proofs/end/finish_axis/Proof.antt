@@ -21,15 +21,15 @@ bar-space-of-requires c κs = search needs
 bar-axis-requires : tie.Need-bar-axis-requires
 bar-axis-requires c κs = search needs
 
-settle-axis-requires : tie.Need-settle-axis-requires
-settle-axis-requires c κs = search needs
+final-clamp-axis-requires : tie.Need-final-clamp-axis-requires
+final-clamp-axis-requires c κs = search needs
 
 ended-of-requires : tie.Need-ended-of-requires
 ended-of-requires c κs = search needs
 
 returns : tie.Need-returns
 unfolding finishedOf
-returns c = rw (← c .before .before .before .before .before .before .before .stick-to-end .ensures, ← c .before .before .before .before .before .before .direction-enabled .ensures, ← c .before .before .before .before .before .shows-bar .ensures, ← c .before .before .before .before .stick-axis .ensures, ← c .before .before .before .bar-space-of .ensures, ← c .before .before .bar-axis .ensures, ← c .before .settle-axis .ensures, ← c .ended-of .ensures)
+returns c = rw (← c .before .before .before .before .before .before .before .stick-to-end .ensures, ← c .before .before .before .before .before .before .direction-enabled .ensures, ← c .before .before .before .before .before .shows-bar .ensures, ← c .before .before .before .before .stick-axis .ensures, ← c .before .before .before .bar-space-of .ensures, ← c .before .before .bar-axis .ensures, ← c .before .final-clamp-axis .ensures, ← c .ended-of .ensures)
 
 pub finish-axis-spec : {M : Type 1} → statement M
 finish-axis-spec =
@@ -41,6 +41,6 @@ finish-axis-spec =
     stick-axis-requires
     bar-space-of-requires
     bar-axis-requires
-    settle-axis-requires
+    final-clamp-axis-requires
     ended-of-requires
     returns)

@@ -5,11 +5,11 @@ use Rattle.numbers.specs.F32.{zero}
 use Rattle.area.specs.State.{clampedTo}
 use Rattle.area.specs.Geometry.{pickOf, hasTarget}
 use Rattle.area.specs.declared.prepared.AxisMotion.{AxisMotion}
-use Rattle.area.specs.declared.settle.Settled.{Settled}
+use Rattle.area.specs.declared.«final_clamp».FinalClamp.{FinalClamp}
 
 -- if !rubber_banding[d] { state.offset[d] = scroll_bounds(available_offset[d]).clamp(state.offset[d]) }
-abbrev pub settledOffset : AxisMotion → Bool → Float → Float
-settledOffset m rubberBanding maxOffset = pickOf rubberBanding (m .offset) (clampedTo (m .offset) maxOffset)
+abbrev pub finalOffset : AxisMotion → Bool → Float → Float
+finalOffset m rubberBanding maxOffset = pickOf rubberBanding (m .offset) (clampedTo (m .offset) maxOffset)
 
 -- suppress_stuck_recompute: had_explicit_scroll_adjustment[d] && state.offset_target[d].is_some()
 abbrev pub suppressStuckRecompute : AxisMotion → Bool → Bool
@@ -20,10 +20,10 @@ abbrev pub isAtEnd : Float → Float → Bool → Bool
 isAtEnd offset maxOffset stickToEnd = eq offset maxOffset || (stickToEnd && lt maxOffset zero)
 
 -- state.offset and state.scroll_stuck_to_end as stored
-unfoldable pub settleOf : AxisMotion → Bool → Float → Bool → Bool → Settled
-settleOf m rubberBanding maxOffset stickToEnd hadExplicitScrollAdjustment = record {
-  offset = settledOffset m rubberBanding maxOffset;
+unfoldable pub finalClampOf : AxisMotion → Bool → Float → Bool → Bool → FinalClamp
+finalClampOf m rubberBanding maxOffset stickToEnd hadExplicitScrollAdjustment = record {
+  offset = finalOffset m rubberBanding maxOffset;
   «scroll_stuck_to_end» =
       not (suppressStuckRecompute m hadExplicitScrollAdjustment)
-      && isAtEnd (settledOffset m rubberBanding maxOffset) maxOffset stickToEnd;
+      && isAtEnd (finalOffset m rubberBanding maxOffset) maxOffset stickToEnd;
 }

@@ -1,7 +1,7 @@
 use borrow.Author.Needs.{needs}
-use Rattle.area.specs.Settle.{settleOf}
-use Rattle.area.proofs.settle.settle_axis.Statement.{statement}
-use Rattle.area.proofs.settle.settle_axis.Tie as tie
+use Rattle.area.specs.FinalClamp.{finalClampOf}
+use Rattle.area.proofs.final_clamp.final_clamp_axis.Statement.{statement}
+use Rattle.area.proofs.final_clamp.final_clamp_axis.Tie as tie
 
 clamped-requires : tie.Need-clamped-requires
 clamped-requires c κs = search needs
@@ -13,8 +13,8 @@ has-target-requires : tie.Need-has-target-requires
 has-target-requires c κs = search needs
 
 returns : tie.Need-returns
-unfolding settleOf
+unfolding finalClampOf
 returns c = rw (← c .before .before .clamped .ensures, ← c .before .pick .ensures, ← c .has-target .ensures)
 
-pub settle-axis-spec : {M : Type 1} → statement M
-settle-axis-spec = tie.close (tie.spec clamped-requires pick-requires has-target-requires returns)
+pub final-clamp-axis-spec : {M : Type 1} → statement M
+final-clamp-axis-spec = tie.close (tie.spec clamped-requires pick-requires has-target-requires returns)
