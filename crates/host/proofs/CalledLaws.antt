@@ -204,7 +204,7 @@ call-is-held s held frame table are lent room table-room =
     (startMem frame table) (start-satisfies Closed.𝓤 Closed.H Closed.model frame table (all-fit frame are) (all-fit table lent)))
     (λ a. typed-is-held (callUnder (tableOf table) s frame .state) _ (a .1 .1 .1 .0))
 
-small : (n : ℕ) → n ≤ 8200 → Room u8 n
+pub small : (n : ℕ) → n ≤ 8200 → Room u8 n
 small n h = (omega (arith, h), omega (arith, h))
 
 -- so it is read back as it is written

@@ -1,5 +1,5 @@
--- The premises of `RecordRun`'s constructor are the contracts of strakobud_frame and strakobud_frame_by, as `rattle check` makes them from the
--- source, and what the type of a frame and of a table says of each byte: a contract that says anything else is refused here.
+-- The premises of `RecordRun`'s constructors are the contracts of strakobud_frame, strakobud_settle and the same under a table, as `rattle check`
+-- makes them from the source, and what the type of a frame and of a table says of each byte: a contract that says anything else is refused here.
 -- Assumes nothing.
 use mathlib.Core.Path.{_≡_, refl}
 use mathlib.Core.List.{List, [], _∷_}
@@ -21,10 +21,12 @@ use denote.Array.{Array}
 use denote.Ref.{now}
 use denote.Triple.Entry.{Args}
 use denote.Triple.Clauses.{AtExit}
-use Rattle.host.specs.Lists.{FrameOnSays}
+use Rattle.host.specs.Lists.{FrameOnSays, SettleOnSays}
 use Rattle.numbers.specs.Table.{tableOf}
 use Rattle.host.proofs.area_calls.strakobud_frame as frame
 use Rattle.host.proofs.area_calls.strakobud_frame_by as frame-by
+use Rattle.host.proofs.settle_calls.strakobud_settle as settle
+use Rattle.host.proofs.settle_calls.strakobud_settle_by as settle-by
 
 module _ {M : Type 1} (𝓤 : URA M) (H : Heap 𝓤) (A : Atoms 𝓤) (mem : Memory → SProp 𝓤) (run : Routine → Fun 𝓤) where
   -- `strakobud_frame`, on the references a .0 (the record), a .1 .0 (the frame) and a .1 .1 .0 (out); at exit they are e .0, e .1 .0 and
@@ -48,6 +50,27 @@ module _ {M : Type 1} (𝓤 : URA M) (H : Heap 𝓤) (A : Atoms 𝓤) (mem : Mem
 
   pub frame-by-asks : (κs : Lfts 4) (a : Args frame-by.signature κs) → frame-by.clauses 𝓤 H A mem run κs a .requires tt ≡ emp 𝓤
   frame-by-asks κs a = refl
+
+  -- `strakobud_settle`, on the references a .0 (the record), a .1 .0 (the frame), a .1 .1 .0 (the run) and a .1 .1 .1 .0 (used); it has no table
+  pub settle-says : (κs : Lfts 4) (a : Args settle.signature κs) (r : ℕ) (e : AtExit settle.ended κs)
+      → settle.clauses 𝓤 H A mem run κs a .ensures tt r e
+      ≡ fact 𝓤 (SettleOnSays [] (now (a .0)) (now (a .1 .0)) (now (a .1 .1 .0)) (now (a .1 .1 .1 .0))
+      (record { refusal = r; state = now (e .0); used = now (e .1 .1 .1 .0) }))
+  unfolding tableOf
+  settle-says κs a r e = refl
+
+  pub settle-asks : (κs : Lfts 4) (a : Args settle.signature κs) → settle.clauses 𝓤 H A mem run κs a .requires tt ≡ emp 𝓤
+  settle-asks κs a = refl
+
+  -- `strakobud_settle_by`, whose table is a .1 .1 .0, run a .1 .1 .1 .0 and used a .1 .1 .1 .1 .0
+  pub settle-by-says : (κs : Lfts 5) (a : Args settle-by.signature κs) (r : ℕ) (e : AtExit settle-by.ended κs)
+      → settle-by.clauses 𝓤 H A mem run κs a .ensures tt r e
+      ≡ fact 𝓤 (SettleOnSays (now (a .1 .1 .0)) (now (a .0)) (now (a .1 .0)) (now (a .1 .1 .1 .0)) (now (a .1 .1 .1 .1 .0))
+      (record { refusal = r; state = now (e .0); used = now (e .1 .1 .1 .1 .0) }))
+  settle-by-says κs a r e = refl
+
+  pub settle-by-asks : (κs : Lfts 5) (a : Args settle-by.signature κs) → settle-by.clauses 𝓤 H A mem run κs a .requires tt ≡ emp 𝓤
+  settle-by-asks κs a = refl
 
 -- a byte b of the frame or of a table, at the machine values vs
 pub byte-says : (b : ℕ) (vs : List Val) → Is u8 b vs ≡ ((vs ≡ vint w8 b ∷ []) × (b < 256))

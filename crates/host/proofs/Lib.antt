@@ -4,8 +4,10 @@ pub mod RecordLaws
 pub mod ReadLaws
 pub mod BackLaws
 pub mod TableLaws
+pub mod SettlingRunLaws
 pub mod HeldLaws
 pub mod TypedLaws
 pub mod CalledLaws
+pub mod RunHeldLaws
 pub mod ListLaws
 pub mod Contracts

@@ -2,36 +2,46 @@
 -- for the state that the step reaches.
 -- Assumes nothing.
 use mathlib.Core.Path.{_≡_, refl, sym, ap, subst, _∙_}
-use mathlib.Core.Bool.{Bool, true, false, cond}
-use mathlib.Core.List.{List, [], _∷_, map}
-use Prim.Native.Nat.{ℕ, _/_, _%_, _<_}
+use mathlib.Core.Bool.{Bool, true, false, cond, _&&_}
+use mathlib.Core.List.{List, [], _∷_, _++_, map}
+use Prim.Native.Nat.{ℕ, zero, suc, _≤_}
 use native.Mathlib.Omega.{arith}
-use borrow.Author.Tests.{eqb-true, eq-eqb}
-use lib.Dec.{eqb}
-use lib.Ieee.{binary32}
+use borrow.Author.Tests.{eq-eqb, ltb-false}
+use lib.Dec.{eqb, ltb}
+use lib.Ieee.{Float, binary32}
 use lib.Ieee.Bits.{ofBits-fits}
-use Rattle.numbers.specs.F32.{zero}
 use Rattle.words.specs.Words.{bytesOf}
+use Rattle.numbers.specs.F32 as F32
 use Rattle.numbers.specs.Table.{Table, tableOf}
 use Rattle.area.specs.State.{default}
 use Rattle.area.specs.Checks.{refusalOf}
-use Rattle.area.specs.Steps.{Fed, stepAt, stepFed, answersFrom, stateFrom, acceptedFrom, isAccepted}
+use Rattle.area.specs.Steps.{Fed, stepAt, stepFed, stateFrom, isAccepted, acceptedFrom}
+use Rattle.area.specs.SettlingRun.{settleRefusal, advanced, endedWith, settleFrom, framesFrom, framesOf, settledBy}
+use Rattle.area.specs.SettlingRun as area
 use Rattle.area.specs.Listing.{listingWords, listing, ListingShown}
-use Rattle.area.specs.Lists as area
+use Rattle.area.specs.Lists.{framesIn, feedFrom, toldFrom, AllLists}
 use Rattle.area.specs.declared.state.State.{State}
 use Rattle.area.specs.declared.outcome.Answer.{Answer}
+use Rattle.area.specs.declared.«settling_run».Settled.{Settled}
+use Rattle.area.proofs.TestLaws.{either}
 use Rattle.area.proofs.CallLaws.{step-is-call, refusal-keeps, whole-of, accepted}
-use Rattle.host.specs.Record.{stateWords, outWords, stateOf, isDamaged, ArePair, IsHeld}
+use Rattle.area.proofs.SettlingRunLaws.{whole-of-run}
+use Rattle.area.proofs.RunLaws.{run-holds, none-used-from}
+use Rattle.area.proofs.ListLaws.{state-after}
+use Rattle.host.specs.Record.{recordOf, outWords, stateOf, isDamaged, ArePair, IsHeld}
 use Rattle.host.specs.Calls.{FrameLeft, leftBy, frameUnder, freshBytes}
-use Rattle.host.specs.Lists.{FrameOnSays, AreBytes, AreTable, RecordCall, fed, feedOf, AreCalls, RecordRun, ends, framed, acceptedOf}
-use Rattle.host.specs.Lists.{AnswersAlong, afterOn, RecordWhole, AllRecordLists}
+use Rattle.host.specs.SettlingRun.{RunLeft, incrementOf, limitOf, upFrontOn, ranOn, ranBy, settleUnder}
+use Rattle.host.specs.Lists.{FrameOnSays, SettleOnSays, AreBytes, AreTable, RecordCall, onFrame, onRun, RecordTold, ofFrame, ofRun}
+use Rattle.host.specs.Lists.{callOf, AreCall, AreCalls, RecordRun, ends, framed, settled, AnswersAlong, no-more, frame-too, run-too}
+use Rattle.host.specs.Lists.{feedOn, RecordWhole, AllRecordLists}
 use Rattle.host.proofs.BackLaws.{written-is-read, written-is-undamaged}
 use Rattle.host.proofs.HeldLaws.{read-is-held}
 use Rattle.host.proofs.CalledLaws.{call-is-read-back}
+use Rattle.host.proofs.RunHeldLaws.{words-are, advanced-are, run-is-read-back}
 
 -- ---- a record: the bytes that are written of the state that they stand for
 abbrev IsRecord : List ℕ → Type 0
-IsRecord s = s ≡ bytesOf (stateWords (stateOf s))
+IsRecord s = s ≡ recordOf (stateOf s)
 
 -- ---- one call
 
@@ -42,165 +52,234 @@ frame-is-step table s frame out is = rw (ap isDamaged is ∙ written-is-undamage
 
 -- what an accepted frame reaches is read back as it is written
 accepted-is-read-back : (s frame table : List ℕ) → AreBytes frame → AreTable table → isAccepted (stepAt (tableOf table) (stateOf s) frame) ≡ true
-    → stateOf (bytesOf (stateWords (stepAt (tableOf table) (stateOf s) frame .state))) ≡ stepAt (tableOf table) (stateOf s) frame .state
+    → stateOf (recordOf (stepAt (tableOf table) (stateOf s) frame .state)) ≡ stepAt (tableOf table) (stateOf s) frame .state
 accepted-is-read-back s frame table are lent a =
     let S = stateOf s in
     let count = whole-of S frame (refusalOf frame S) refl (eq-eqb (refusalOf frame S) 0 (accepted (tableOf table) S frame a .unrefused)) in
-    subst (λ (t : Answer). stateOf (bytesOf (stateWords (t .state))) ≡ t .state) (sym (step-is-call (tableOf table) S frame))
+    subst (λ (t : Answer). stateOf (recordOf (t .state)) ≡ t .state) (sym (step-is-call (tableOf table) S frame))
     (call-is-read-back S (read-is-held s) frame table are lent count)
 
--- with whether the step accepts
-left-stands : (test : Bool) (a : Answer) (s out : List ℕ)
-    → (test ≡ true → stateOf (bytesOf (stateWords (a .state))) ≡ a .state) → (test ≡ false → a .state ≡ stateOf s) → IsRecord s
-    → let left : FrameLeft = cond test
-    (record { refusal = 0; state = bytesOf (stateWords (a .state)); out = bytesOf (outWords (a .outcome)) })
-    (record { refusal = a .outcome .refusal; state = s; out = out }) in
-    (stateOf (left .state) ≡ a .state) × IsRecord (left .state)
-left-stands true a s out read kept is = (read refl, ap (λ (S : State). bytesOf (stateWords S)) (sym (read refl)))
-left-stands false a s out read kept is = (sym (kept refl), is)
+-- with whether the record is written
+written-stands : (test : Bool) (S : State) (s : List ℕ) → (test ≡ true → stateOf (recordOf S) ≡ S) → (test ≡ false → S ≡ stateOf s) → IsRecord s
+    → let left : List ℕ = cond test (recordOf S) s in
+    (stateOf left ≡ S) × IsRecord left
+written-stands true S s read kept is = (read refl, ap recordOf (sym (read refl)))
+written-stands false S s read kept is = (sym (kept refl), is)
 
-record One (s : List ℕ) (c : RecordCall) (r : FrameLeft) : Type 0 where
-  pub answers : r ≡ leftBy (stepFed (stateOf s) (fed c)) s (c .out)
-  pub stands : stateOf (r .state) ≡ stepFed (stateOf s) (fed c) .state
+left-state : (test : Bool) (a : Answer) (s out : List ℕ)
+    → let left : FrameLeft = cond test
+    (record { refusal = 0; state = recordOf (a .state); out = bytesOf (outWords (a .outcome)) })
+    (record { refusal = a .outcome .refusal; state = s; out = out }) in
+    left .state ≡ cond test (recordOf (a .state)) s
+left-state true a s out = refl
+left-state false a s out = refl
+
+-- a frame on a record
+record One (s frame table out : List ℕ) (r : FrameLeft) : Type 0 where
+  pub answers : r ≡ leftBy (stepAt (tableOf table) (stateOf s) frame) s out
+  pub stands : stateOf (r .state) ≡ stepAt (tableOf table) (stateOf s) frame .state
   pub is-record : IsRecord (r .state)
 
-one : (s : List ℕ) (c : RecordCall) (r : FrameLeft) → IsRecord s → AreBytes (c .frame) → AreTable (c .table)
-    → FrameOnSays (c .table) s (c .frame) (c .out) r → One s c r
-one s c r is are lent says =
-    let table = tableOf (c .table) in
-    let a = stepFed (stateOf s) (fed c) in
-    let same : r ≡ leftBy a s (c .out) = says ∙ frame-is-step table s (c .frame) (c .out) is in
+one : (s frame table out : List ℕ) (r : FrameLeft) → IsRecord s → AreBytes frame → AreTable table → FrameOnSays table s frame out r → One s frame table out r
+one s frame table out r is are lent says =
+    let a = stepAt (tableOf table) (stateOf s) frame in
+    let same : r ≡ leftBy a s out = says ∙ frame-is-step (tableOf table) s frame out is in
     let left =
-    left-stands (isAccepted a) a s (c .out) (accepted-is-read-back s (c .frame) (c .table) are lent) (refusal-keeps table (stateOf s) (c .frame)) is in
-    record {
-      answers = same;
-      stands = ap (λ (l : FrameLeft). stateOf (l .state)) same ∙ left .0;
-      is-record = subst (λ (l : FrameLeft). IsRecord (l .state)) (sym same) (left .1);
-    }
+    written-stands (isAccepted a) (a .state) s (accepted-is-read-back s frame table are lent) (refusal-keeps (tableOf table) (stateOf s) frame) is in
+    let written = ap (λ (l : FrameLeft). l .state) same ∙ left-state (isAccepted a) a s out in
+    record { answers = same; stands = ap stateOf written ∙ left .0; is-record = subst IsRecord (sym written) (left .1) }
+
+-- ---- one run
+
+module _ (s frame table run used : List ℕ) where
+  abbrev S : State
+  S = stateOf s
+
+  abbrev upFront : ℕ
+  upFront = settleRefusal S frame (incrementOf run) (limitOf run)
+
+  -- what the steps answer, and what the run's frames come to
+  abbrev told : Settled
+  told = settledBy (tableOf table) S frame (incrementOf run) (limitOf run)
+
+  abbrev ran : Settled
+  ran = settleFrom (tableOf table) (incrementOf run) (limitOf run) S frame
+
+  record OneRun (r : RunLeft) : Type 0 where
+    pub answers : r ≡ ranBy upFront told s used
+    pub stands : stateOf (r .state) ≡ told .state
+    pub is-record : IsRecord (r .state)
+
+  -- a run on a record is a run on its state
+  run-is-run : IsRecord s → settleUnder (tableOf table) s frame run used ≡ ranBy upFront ran s used
+  unfolding settleUnder upFrontOn ranOn
+  run-is-run is = rw (ap isDamaged is ∙ written-is-undamaged S)
+
+  told-is : told ≡ area.settleUnder (tableOf table) S frame (incrementOf run) (limitOf run)
+  told-is = sym (run-holds (tableOf table) S frame (incrementOf run) (limitOf run) .by-steps)
+
+  told-is-ran : eqb upFront 0 ≡ true → told ≡ ran
+  unfolding area.settleUnder
+  told-is-ran h = told-is ∙ rw h
+
+  told-is-given : eqb upFront 0 ≡ false → told ≡ endedWith upFront S
+  unfolding area.settleUnder
+  told-is-given h = told-is ∙ rw h
+
+  ran-stands : IsRecord s → AreBytes frame → AreTable table → (t : Bool) → eqb upFront 0 ≡ t → OneRun (ranBy upFront ran s used)
+  ran-stands is are lent true h =
+      let whole = whole-of-run S frame (incrementOf run) (limitOf run) upFront refl h in
+      let read = run-is-read-back table lent (incrementOf run) (limitOf run) S (read-is-held s) frame are whole in
+      let left =
+      written-stands (ltb 0 (ran .used)) (ran .state) s (λ _. read)
+      (λ none. none-used-from (tableOf table) (incrementOf run) (limitOf run) S frame (le-zero (ltb-false 0 (ran .used) none))) is in
+      record {
+        answers = ap (λ (z : Settled). ranBy upFront z s used) (sym (told-is-ran h));
+        stands = rw h (left .0 ∙ ap (λ (z : Settled). z .state) (sym (told-is-ran h)));
+        is-record = rw h (left .1);
+      }
+    where
+      le-zero : {n : ℕ} → n ≤ 0 → n ≡ 0
+      le-zero h = omega arith
+  ran-stands is are lent false h = record { answers = rw h; stands = rw h (ap (λ (z : Settled). z .state) (sym (told-is-given h))); is-record = rw h is }
+
+  one-run : (r : RunLeft) → IsRecord s → AreBytes frame → AreTable table → SettleOnSays table s frame run used r → OneRun r
+  one-run r is are lent says = subst OneRun (sym (says ∙ run-is-run is)) (ran-stands is are lent _ refl)
 
 -- ---- a list of calls
 
-record Same (s : List ℕ) (calls : List RecordCall) (answers : List FrameLeft) (t : List ℕ) : Type 0 where
-  pub answers-same : AnswersAlong s calls (answersFrom (stateOf s) (feedOf calls)) answers
-  pub state-same : stateOf t ≡ stateFrom (stateOf s) (feedOf calls)
+record Same (s : List ℕ) (calls : List RecordCall) (answers : List RecordTold) (t : List ℕ) : Type 0 where
+  pub answers-same : AnswersAlong s calls (toldFrom (stateOf s) (map callOf calls)) answers
+  pub state-same : stateOf t ≡ stateFrom (stateOf s) (feedOn s calls)
   pub is-record : IsRecord t
 
-same : {s : List ℕ} {calls : List RecordCall} {answers : List FrameLeft} {t : List ℕ} → RecordRun s calls answers t → IsRecord s → Same s calls answers t
-same ends is = record { answers-same = tt; state-same = refl; is-record = is }
-same (framed {s} {c} {r} {calls} {answers} {t} are lent says run) is =
-    let o = one s c r is are lent says in
+-- on the state that the first call reaches
+abbrev AlongOn : State → List ℕ → List RecordCall → List RecordTold → Type 0
+AlongOn S s calls answers = AnswersAlong s calls (toldFrom S (map callOf calls)) answers
+
+abbrev ReachedOn : State → List RecordCall → List ℕ → Type 0
+ReachedOn S calls t = stateOf t ≡ stateFrom S (feedFrom S (map callOf calls))
+
+same : {s : List ℕ} {calls : List RecordCall} {answers : List RecordTold} {t : List ℕ} → RecordRun s calls answers t → IsRecord s → Same s calls answers t
+unfolding settledBy
+same ends is = record { answers-same = no-more; state-same = refl; is-record = is }
+same (framed {s} {frame} {table} {out} {r} {calls} {answers} {t} are lent says run) is =
+    let o = one s frame table out r is are lent says in
     let rest = same run (o .is-record) in
     record {
-      answers-same = (
-        o .answers,
-        o .stands,
-        subst (λ (S : State). AnswersAlong (r .state) calls (answersFrom S (feedOf calls)) answers) (o .stands) (rest .answers-same),
-      );
-      state-same = subst (λ (S : State). stateOf t ≡ stateFrom S (feedOf calls)) (o .stands) (rest .state-same);
+      answers-same = frame-too (o .answers) (o .stands) (subst (λ (S : State). AlongOn S (r .state) calls answers) (o .stands) (rest .answers-same));
+      state-same = subst (λ (S : State). ReachedOn S calls t) (o .stands) (rest .state-same);
+      is-record = rest .is-record;
+    }
+same (settled {s} {frame} {table} {run} {used} {r} {calls} {answers} {t} are lent says more) is =
+    let o = one-run s frame table run used r is are lent says in
+    let rest = same more (o .is-record) in
+    let frames = framesOf (tableOf table) (stateOf s) frame (incrementOf run) (limitOf run) in
+    record {
+      answers-same = run-too (o .answers) (o .stands) (subst (λ (S : State). AlongOn S (r .state) calls answers) (o .stands) (rest .answers-same));
+      state-same = subst (λ (S : State). ReachedOn S calls t) (o .stands) (rest .state-same) ∙ sym (state-after (stateOf s) frames _);
       is-record = rest .is-record;
     }
 
 -- each list has a run
-pub run-of : (s : List ℕ) (calls : List RecordCall) → AreCalls calls → (answers : List FrameLeft) × (t : List ℕ) × RecordRun s calls answers t
+pub run-of : (s : List ℕ) (calls : List RecordCall) → AreCalls calls → (answers : List RecordTold) × (t : List ℕ) × RecordRun s calls answers t
 run-of s [] are = ([], s, ends)
-run-of s (c ∷ calls) are =
-    let r = frameUnder (tableOf (c .table)) s (c .frame) (c .out) in
-    let rest = run-of (r .state) calls (are .2) in
-    (r ∷ rest .0, rest .1, framed (are .0) (are .1) refl (rest .2))
+run-of s (onFrame frame table out ∷ calls) are =
+    let r = frameUnder (tableOf table) s frame out in
+    let rest = run-of (r .state) calls (are .1) in
+    (ofFrame r ∷ rest .0, rest .1, framed (are .0 .0) (are .0 .1) refl (rest .2))
+run-of s (onRun frame table run used ∷ calls) are =
+    let r = settleUnder (tableOf table) s frame run used in
+    let rest = run-of (r .state) calls (are .1) in
+    (ofRun r ∷ rest .0, rest .1, settled (are .0 .0) (are .0 .1) refl (rest .2))
 
--- ---- whether a call is accepted
-refusal-told : (test : Bool) (x : ℕ) (l : FrameLeft) → eqb x 0 ≡ test → l .refusal ≡ 0 → (m : FrameLeft) → m .refusal ≡ x → cond test l m .refusal ≡ x
-refusal-told true x l e zero m h = zero ∙ sym (eqb-true x 0 e)
-refusal-told false x l e zero m h = h
+-- ---- the accepted frames alone: every frame that the steps are fed is one that a call can be made on
+record IsLent (fed : Fed) : Type 0 where
+  pub table : List ℕ
+  pub are : AreBytes (fed .bytes)
+  pub lent : AreTable table
+  pub same : tableOf table ≡ fed .table
 
-same-refusal : (a : Answer) (s out : List ℕ) (r : FrameLeft) → r ≡ leftBy a s out → r .refusal ≡ a .outcome .refusal
-same-refusal a s out r e =
-    ap (λ (l : FrameLeft). l .refusal) e ∙ refusal-told (eqb (a .outcome .refusal) 0) (a .outcome .refusal) _ refl refl _ refl
+abbrev AllLent : List Fed → Type 0
+AllLent [] = Unit {0}
+AllLent (fed ∷ frames) = IsLent fed × AllLent frames
 
--- ---- the accepted calls alone
-accepted-frames : (test : Bool) (c : RecordCall) (calls : List RecordCall) (frames : List Fed) → feedOf calls ≡ frames
-    → feedOf (cond test (c ∷ calls) calls) ≡ cond test (fed c ∷ frames) frames
-accepted-frames true c calls frames e = λ i. fed c ∷ e i
-accepted-frames false c calls frames e = e
+both-lent : (frames others : List Fed) → AllLent frames → AllLent others → AllLent (frames ++ others)
+both-lent [] others all too = too
+both-lent (fed ∷ frames) others all too = (all .0, both-lent frames others (all .1) too)
 
-accepted-same : (s : List ℕ) (S : State) (calls : List RecordCall) (answers : List FrameLeft) → AnswersAlong s calls (answersFrom S (feedOf calls)) answers
-    → feedOf (acceptedOf calls answers) ≡ acceptedFrom S (feedOf calls)
-accepted-same s S [] [] along = refl
-accepted-same s S [] (r ∷ answers) along = absurd along
-accepted-same s S (c ∷ calls) [] along = absurd along
-accepted-same s S (c ∷ calls) (r ∷ answers) along =
-    let a = stepFed S (fed c) in
-    ap (λ (n : ℕ). feedOf (cond (eqb n 0) (c ∷ acceptedOf calls answers) (acceptedOf calls answers))) (same-refusal a s (c .out) r (along .0))
-    ∙ accepted-frames (isAccepted a) c (acceptedOf calls answers) (acceptedFrom (a .state) (feedOf calls))
-    (accepted-same (r .state) (a .state) calls answers (along .2))
+accepted-lent : (S : State) (frames : List Fed) → AllLent frames → AllLent (acceptedFrom S frames)
+accepted-lent S [] all = tt
+accepted-lent S (fed ∷ rest) all =
+    let others = accepted-lent (stepFed S fed .state) rest (all .1) in
+    either AllLent (isAccepted (stepFed S fed)) (fed ∷ acceptedFrom (stepFed S fed .state) rest) (acceptedFrom (stepFed S fed .state) rest) (all .0, others) others
 
-chosen-are : (test : Bool) (c : RecordCall) (calls : List RecordCall) → AreBytes (c .frame) → AreTable (c .table) → AreCalls calls
-    → AreCalls (cond test (c ∷ calls) calls)
-chosen-are true c calls are lent rest = (are, lent, rest)
-chosen-are false c calls are lent rest = rest
+module _ (table : List ℕ) (lent : AreTable table) (increment : Float) where
+  run-lent : (n : ℕ) (u : State) (frame : List ℕ) → AreBytes frame → AllLent (framesFrom (tableOf table) increment n u frame)
+  run-lent zero u frame are = tt
+  run-lent (suc n) u frame are =
+      let r = stepAt (tableOf table) u frame in
+      let rest = run-lent n (stepAt (tableOf table) u frame .state) (advanced increment frame) (advanced-are increment frame are) in (
+        record { table = table; are = are; lent = lent; same = refl },
+        either AllLent (isAccepted r && r .outcome .repaint) (framesFrom (tableOf table) increment n (r .state) (advanced increment frame)) [] rest tt,
+      )
 
-accepted-are : {s : List ℕ} {calls : List RecordCall} {answers : List FrameLeft} {t : List ℕ} → RecordRun s calls answers t → AreCalls (acceptedOf calls answers)
-accepted-are ends = tt
-accepted-are (framed {s} {c} {r} {calls} {answers} {t} are lent says run) =
-    chosen-are (eqb (r .refusal) 0) c (acceptedOf calls answers) are lent (accepted-are run)
+call-lent : (S : State) (call : RecordCall) → AreCall call → AllLent (framesIn S (callOf call))
+unfolding framesOf
+call-lent S (onFrame frame table out) are = (record { table = table; are = are .0; lent = are .1; same = refl }, tt)
+call-lent S (onRun frame table run used) are =
+    either AllLent (eqb (settleRefusal S frame (incrementOf run) (limitOf run)) 0) (framesFrom (tableOf table) (incrementOf run) (limitOf run) S frame) []
+    (run-lent table (are .1) (incrementOf run) (limitOf run) S frame (are .0)) tt
 
--- ---- what the calls show is what the steps show
-after-same : (s : List ℕ) (calls : List RecordCall) (steps : List Answer) (answers : List FrameLeft) → AnswersAlong s calls steps answers
-    → map area.afterOf steps ≡ map afterOn answers
-after-same s [] [] [] along = refl
-after-same s [] [] (r ∷ answers) along = absurd along
-after-same s [] (a ∷ steps) answers along = absurd along
-after-same s (c ∷ calls) [] answers along = absurd along
-after-same s (c ∷ calls) (a ∷ steps) [] along = absurd along
-after-same s (c ∷ calls) (a ∷ steps) (r ∷ answers) along =
-    let refusal = sym (same-refusal a s (c .out) r (along .0)) in
-    let state = sym (along .1) in
-    λ i. record { accepted = eqb (refusal i) 0; state = state i } ∷ after-same (r .state) calls steps answers (along .2) i
+feed-lent : (S : State) (calls : List RecordCall) → AreCalls calls → AllLent (feedFrom S (map callOf calls))
+feed-lent S [] are = tt
+feed-lent S (call ∷ calls) are = both-lent (framesIn S (callOf call)) _ (call-lent S call (are .0)) (feed-lent _ calls (are .1))
+
+calls-are : {s : List ℕ} {calls : List RecordCall} {answers : List RecordTold} {t : List ℕ} → RecordRun s calls answers t → AreCalls calls
+calls-are ends = tt
+calls-are (framed are lent says run) = ((are, lent), calls-are run)
+calls-are (settled are lent says run) = ((are, lent), calls-are run)
+
+-- calls on given frames, and on no others
+record CallsOn (frames : List Fed) : Type 0 where
+  pub calls : List RecordCall
+  pub are : AreCalls calls
+  pub feeds : (S : State) → feedFrom S (map callOf calls) ≡ frames
+
+calls-on : (frames : List Fed) → AllLent frames → CallsOn frames
+calls-on [] all = record { calls = []; are = tt; feeds = λ S. refl }
+calls-on (fed ∷ frames) all =
+    let rest = calls-on frames (all .1) in
+    let one = all .0 in
+    record {
+      calls = onFrame (fed .bytes) (one .table) [] ∷ rest .calls;
+      are = ((one .are, one .lent), rest .are);
+      feeds = λ S i. record { table = one .same i; bytes = fed .bytes } ∷ rest .feeds (stepAt (tableOf (one .table)) S (fed .bytes) .state) i;
+    }
 
 -- ---- the claim, of a record from whose state every list of calls goes as demand 3 says
-abbrev called : List RecordCall → List area.Call
-called calls = map (λ (c : RecordCall). area.byValue (tableOf (c .table)) (c .frame)) calls
-
-same-frames : (calls : List RecordCall) → map area.fedOf (called calls) ≡ feedOf calls
-same-frames [] = refl
-same-frames (c ∷ calls) = λ i. fed c ∷ same-frames calls i
-
--- the steps on the frames
-record Steps (S : State) (frames : List Fed) : Type 0 where
-  pub alone : stateFrom S (acceptedFrom S frames) ≡ stateFrom S frames
-  pub distances : area.DistancesAlong S frames (map area.afterOf (answersFrom S frames))
-
-steps-of : (S : State) → area.AllLists S → (calls : List RecordCall) → Steps S (feedOf calls)
-steps-of S all calls =
-    let w = all .whole (called calls) _ _ (all .has-run (called calls)) in
-    subst (Steps S) (same-frames calls) (record { alone = w .accepted-alone; distances = w .distances })
-
-whole-from : (s : List ℕ) → IsRecord s → area.AllLists (stateOf s) → (calls : List RecordCall) (answers : List FrameLeft) (t : List ℕ)
+whole-from : (s : List ℕ) → IsRecord s → AllLists (stateOf s) → (calls : List RecordCall) (answers : List RecordTold) (t : List ℕ)
     → RecordRun s calls answers t → RecordWhole s calls answers t
 whole-from s is all calls answers t run =
     let S = stateOf s in
-    let frames = feedOf calls in
-    let steps = steps-of S all calls in
+    let steps = all .whole (map callOf calls) _ _ (all .has-run (map callOf calls)) in
     let goes = same run is in
-    let along = goes .answers-same in
-    let recorded : t ≡ bytesOf (stateWords (stateFrom S frames)) = goes .is-record ∙ ap (λ (T : State). bytesOf (stateWords T)) (goes .state-same) in
-    let alone = run-of s (acceptedOf calls answers) (accepted-are run) in
-    let goes-alone = same (alone .2) is in
-    let reaches : alone .1 ≡ t =
-    goes-alone .is-record
-    ∙ ap (λ (T : State). bytesOf (stateWords T))
-    (goes-alone .state-same ∙ ap (stateFrom S) (accepted-same s S calls answers along) ∙ steps .alone)
-    ∙ sym recorded in
+    let recorded : t ≡ recordOf (stateFrom S (feedOn s calls)) = goes .is-record ∙ ap recordOf (goes .state-same) in
+    let alone = calls-on (acceptedFrom S (feedOn s calls)) (accepted-lent S (feedOn s calls) (feed-lent S calls (calls-are run))) in
+    let ran = run-of s (alone .calls) (alone .are) in
+    let goes-alone = same (ran .2) is in
+    let ends-there : ran .1 ≡ t =
+    goes-alone .is-record ∙ ap recordOf (goes-alone .state-same ∙ ap (stateFrom S) (alone .feeds S) ∙ steps .accepted-alone) ∙ sym recorded in
     record {
-      same-answers = along;
+      same-answers = goes .answers-same;
       same-state = goes .state-same;
       same-record = recorded;
-      accepted-alone = (alone .0, subst (RecordRun s (acceptedOf calls answers) (alone .0)) reaches (alone .2));
-      distances = subst (area.DistancesAlong S frames) (after-same s calls (answersFrom S frames) answers along) (steps .distances);
+      accepted-alone = (alone .calls, ran .0, subst (RecordRun s (alone .calls) (ran .0)) ends-there (ran .2), alone .feeds S);
+      distances = steps .distances;
     }
 
 -- ---- of the record that strakobud_fresh writes
-zeros : ArePair (zero ∷ zero ∷ [])
+zeros : ArePair (F32.zero ∷ F32.zero ∷ [])
 zeros = (ofBits-fits binary32 0, ofBits-fits binary32 0)
 
 fresh-is-held : IsHeld default
@@ -225,24 +304,15 @@ fresh-stands = written-is-read default fresh-is-held
 
 fresh-is-record : IsRecord freshBytes
 unfolding freshBytes
-fresh-is-record = ap (λ (S : State). bytesOf (stateWords S)) (sym fresh-stands)
-
--- what words are written as are bytes
-words-are : (words : List ℕ) → AreBytes (bytesOf words)
-unfolding bytesOf
-words-are [] = tt
-words-are (w ∷ words) = (low w, (low (w / 256), (low (w / 65536), (low (w / 16777216), words-are words))))
-  where
-    low : (n : ℕ) → n % 256 < 256
-    low n = omega arith
+fresh-is-record = ap recordOf (sym fresh-stands)
 
 listing-are : AreBytes listing
 unfolding listing
 listing-are = words-are listingWords
 
-pub all-lists : area.AllLists default → AllRecordLists freshBytes
+pub all-lists : AllLists default → AllRecordLists freshBytes
 all-lists all = record {
-  whole = whole-from freshBytes fresh-is-record (subst area.AllLists (sym fresh-stands) all);
+  whole = whole-from freshBytes fresh-is-record (subst AllLists (sym fresh-stands) all);
   has-run = run-of freshBytes;
   listing-shown = (listing-are, λ table. subst (ListingShown table) (sym fresh-stands) (all .listing-shown table));
 }

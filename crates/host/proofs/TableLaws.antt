@@ -1,21 +1,22 @@
--- T's bytes load and stand for T, so a call under them is the call without a table; how they are written; and a table that is copied whole.
+-- T's bytes load and stand for T, so a call under them is the call without a table; and how they are written.
 -- Assumes nothing.
 use mathlib.Core.Path.{_≡_, refl, sym, ap, _∙_, subst}
 use mathlib.Core.Bool.{Bool, true, false, cond, _&&_}
-use mathlib.Core.List.{List, [], _∷_, _++_, append-nil}
+use mathlib.Core.List.{List, [], _∷_, _++_}
 use Prim.Native.Nat.{ℕ, zero, suc, _+_, _*_, _/_, _%_, _^_, _≤_, _<_, min}
-use native.Mathlib.Nat.{le-refl, le-of-eq, zero-add, add-zero, add-suc, suc-add, le-of-suc-le-suc, not-suc-le-zero}
+use native.Mathlib.Nat.{zero-add, add-zero, add-suc, suc-add, le-of-suc-le-suc, not-suc-le-zero}
 use native.Mathlib.Numerals.{add-one}
 use native.Mathlib.Omega.{arith}
 use borrow.Author.Tests.{ltb-true}
 use lib.Dec.{eqb, ltb}
-use lib.ListN.{length, getD, take, drop, take-append-drop, drop-of-length-le}
-use Rattle.words.specs.Words.{wordAt, longAt, bytesOf, putAt}
+use lib.ListN.{length, getD}
+use Rattle.words.specs.Words.{wordAt, longAt, longWords, bytesOf, putAt}
 use Rattle.numbers.specs.Table.{Table, tableAt, tableOf, loadOf, IsTable, Served}
 use Rattle.numbers.proofs.TableLaws.{t-is-table, as-table, at-most}
 use Rattle.numbers.proofs.LoadLaws.{so-loads}
 use Rattle.host.specs.Calls.{frameUnder, stepUnder}
-use Rattle.host.specs.Table.{longWords, entryWords, tableBytes, ServesAsT}
+use Rattle.host.specs.SettlingRun.{settleUnder}
+use Rattle.host.specs.Table.{entryWords, tableBytes, ServesAsT}
 use Rattle.host.proofs.PartLaws.{Part, Right, putParts, wordsOf, total, length-bytes, put-parts}
 use Rattle.host.proofs.ReadLaws.{read-back}
 
@@ -106,23 +107,12 @@ serves-as-t = record {
   loads = t-loads;
   is-t = lent-t-is-t;
   same-frame = λ state frame out. ap (λ (table : Table). frameUnder table state frame out) lent-t-is-t;
+  same-run = λ state frame run used. ap (λ (table : Table). settleUnder table state frame run used) lent-t-is-t;
   same-step = λ call. ap (λ (table : Table). stepUnder table call) lent-t-is-t;
 }
 
 pub so-serves : (table : List ℕ) → table ≡ tableBytes → (table ≡ tableBytes) × ServesAsT table
 so-serves table e = (e, subst ServesAsT (sym e) serves-as-t)
-
--- ---- a table that is copied whole
-
-pub copied : (bytes table : List ℕ) → length bytes ≡ length table → take (length bytes) bytes ++ drop (length bytes) table ≡ bytes
-copied bytes table e =
-    ap (λ (l : List ℕ). l ++ drop (length bytes) table) (all bytes)
-    ∙ ap (λ (l : List ℕ). bytes ++ l) (drop-of-length-le table (le-of-eq (sym e))) ∙ append-nil bytes
-  where
-    all : (l : List ℕ) → take (length l) l ≡ l
-    all l =
-        sym (append-nil (take (length l) l)) ∙ ap (λ (r : List ℕ). take (length l) l ++ r) (sym (drop-of-length-le l (le-refl (length l))))
-        ∙ take-append-drop (length l) l
 
 -- ---- T written entry by entry
 abbrev parts : ℕ → ℕ → List Part

@@ -16,11 +16,11 @@ use Rattle.area.specs.Frame.{wordNo, numberNo, flagNo, sourceNo}
 use Rattle.area.specs.Checks.{frameRefusal}
 use Rattle.area.specs.Call.{callUnder}
 use Rattle.area.specs.declared.outcome.Answer.{Answer}
-use Rattle.host.specs.Record.{numberWord, numberWords, flagWord, stateWords, outWords, stateOf, isDamaged, isNoFlag}
+use Rattle.host.specs.Record.{numberWord, numberWords, flagWord, recordOf, outWords, stateOf, isDamaged, isNoFlag}
 
 -- strakobud_fresh
 unfoldable pub freshBytes : List ℕ
-freshBytes = bytesOf (stateWords default)
+freshBytes = recordOf default
 
 -- ---- strakobud_frame_by, and strakobud_frame
 pub record FrameLeft : Type 0 where
@@ -32,7 +32,7 @@ pub record FrameLeft : Type 0 where
 abbrev pub leftBy : Answer → List ℕ → List ℕ → FrameLeft
 leftBy a state out =
     cond (eqb (a .outcome .refusal) 0)
-    (record { refusal = 0; state = bytesOf (stateWords (a .state)); out = bytesOf (outWords (a .outcome)) })
+    (record { refusal = 0; state = recordOf (a .state); out = bytesOf (outWords (a .outcome)) })
     (record { refusal = a .outcome .refusal; state = state; out = out })
 
 -- "A state flag that is not 0 or 1 is a damaged state: 6, in 6's place"

@@ -1,5 +1,6 @@
--- Records of words; the calls on them, and on tables; and what holds of a list of calls.
+-- Records of words; the calls on them, the settling run, and the calls on tables; and what holds of a list of calls.
 pub mod Record
 pub mod Calls
+pub mod SettlingRun
 pub mod Table
 pub mod Lists

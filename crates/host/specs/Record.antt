@@ -1,15 +1,16 @@
 -- A state, and what a frame puts out besides it, in 32-bit words "written as a frame writes its own": the fields in the Rust's
 -- order; an absent option is zeros when written and ignored when read.
-use Prim.Native.Nat.{ℕ, _+_, _*_, _/_, _%_}
-use mathlib.Core.Bool.{Bool, true, false, cond, not, _||_}
+use Prim.Native.Nat.{ℕ, _+_}
+use mathlib.Core.Bool.{Bool, cond, _||_}
 use mathlib.Core.List.{List, [], _∷_, _++_}
 use lib.Dec.{T, ltb}
 use lib.ListN.{getD}
 use lib.Ieee.{Float, binary32, binary64, fits, toBits}
+use Rattle.words.specs.Words.{bytesOf}
 use Rattle.numbers.specs.declared.shape.Rect.{Rect}
 use Rattle.area.specs.Pair.{num, flag}
 use Rattle.area.specs.State.{noTarget, noPress}
-use Rattle.area.specs.Frame.{wordNo, numberNo, flagNo, timeNo, pairNo, flagsNo, maybeRectNo}
+use Rattle.area.specs.Frame.{wordNo, numberNo, flagNo, timeNo, timeWords, pairNo, flagsNo, maybeRectNo}
 use Rattle.area.specs.Outcome.{noHandle}
 use Rattle.area.specs.declared.state.State.{State}
 use Rattle.area.specs.declared.state.MaybeTarget.{MaybeTarget}
@@ -31,10 +32,6 @@ numberWords v = numberWord (num v 0) ∷ numberWord (num v 1) ∷ []
 
 abbrev pub flagWords : List Bool → List ℕ
 flagWords v = flagWord (flag v 0) ∷ flagWord (flag v 1) ∷ []
-
--- a time: low word, high word
-abbrev pub timeWords : Float → List ℕ
-timeWords t = toBits binary64 t % 4294967296 ∷ toBits binary64 t / 4294967296 ∷ []
 
 -- flag, start, end, goal
 abbrev pub targetWords : MaybeTarget → List ℕ
@@ -68,6 +65,10 @@ stateWords s =
     ++ (flagWords (s .«scroll_stuck_to_end»)
     ++ (maybeRectWords (s .«interact_rect»)
     ++ flagWords (s .«bounced_this_momentum»))))))))))))
+
+-- its record, in bytes
+abbrev pub recordOf : State → List ℕ
+recordOf s = bytesOf (stateWords s)
 
 -- "Out of the frame, 25 words: content size 2, inner rectangle 4, viewport 4, each axis's handle as flag and 4 (zeros if none), wheel
 -- delta left 2, scroll delta left 2, repaint."

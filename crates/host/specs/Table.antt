@@ -1,12 +1,13 @@
 -- The calls on a maker's table (document 02, K4): loading one, and T as a maker would ship it.
 use mathlib.Core.Path.{_≡_}
 use mathlib.Core.Bool.{cond}
-use mathlib.Core.List.{List, [], _∷_, _++_}
-use Prim.Native.Nat.{ℕ, zero, suc, _/_, _%_, _^_}
+use mathlib.Core.List.{List, [], _++_}
+use Prim.Native.Nat.{ℕ, zero, suc}
 use lib.Dec.{eqb}
-use Rattle.words.specs.Words.{bytesOf}
+use Rattle.words.specs.Words.{longWords, bytesOf}
 use Rattle.numbers.specs.Table.{tableAt, loadOf, tableOf}
 use Rattle.host.specs.Calls.{frameOn, frameUnder, stepOn, stepUnder}
+use Rattle.host.specs.SettlingRun.{settleOn, settleUnder}
 
 -- strakobud_table_load: the bytes are copied where they load, and else the table stays
 pub record TableLeft : Type 0 where
@@ -16,10 +17,6 @@ pub record TableLeft : Type 0 where
 unfoldable pub loadOn : List ℕ → List ℕ → TableLeft
 loadOn bytes table =
     cond (eqb (loadOf bytes) 0) (record { refusal = 0; table = bytes }) (record { refusal = loadOf bytes; table = table })
-
--- a number of "64 bits, little-endian" in words
-abbrev pub longWords : ℕ → List ℕ
-longWords n = n % 2 ^ 32 ∷ n / 2 ^ 32 ∷ []
 
 -- n entries of T from entry k on
 unfoldable pub entryWords : ℕ → ℕ → List ℕ
@@ -37,4 +34,5 @@ pub record ServesAsT (bytes : List ℕ) : Type 0 where
   pub loads : loadOf bytes ≡ 0
   pub is-t : tableOf bytes ≡ tableAt
   pub same-frame : (state frame out : List ℕ) → frameUnder (tableOf bytes) state frame out ≡ frameOn state frame out
+  pub same-run : (state frame run used : List ℕ) → settleUnder (tableOf bytes) state frame run used ≡ settleOn state frame run used
   pub same-step : (call : List ℕ) → stepUnder (tableOf bytes) call ≡ stepOn call

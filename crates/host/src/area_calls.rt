@@ -10,7 +10,7 @@ use crate::write::put_outcome;
 use crate::write::put_state;
 use area::State;
 
-// A fresh state's record. Demand 3 holds of every list of `strakobud_frame` and `strakobud_frame_by` calls that begins on it.
+// A fresh state's record. Demand 3 holds of every list of frames and settling runs on it, under tables or not.
 #[no_mangle]
 pub extern "C" fn strakobud_fresh(state: &mut [u8; 148])
     ensures starts { λ _. ⌜ now (state .exit) ≡ Spec.freshBytes ⌝ }
@@ -60,7 +60,7 @@ fn frame_under(state: &mut [u8; 148], frame: &[u8], table: &[u8], out: &mut [u8;
 }
 
 // The lowest of checks 1 to 5 that applies, or 6.
-fn damaged_refusal(frame: &[u8]) -> u32
+pub fn damaged_refusal(frame: &[u8]) -> u32
     ensures { λ r. ⌜ r ≡ Spec.damagedRefusal (now (frame .entry)) ⌝ }
 {
     let refusal = area::frame_refusal(frame);

@@ -2,6 +2,7 @@
 mod area_calls;
 mod axis_calls;
 mod read;
+mod settle_calls;
 mod table_calls;
 mod write;
 
@@ -13,5 +14,7 @@ pub use axis_calls::strakobud_drag;
 pub use axis_calls::strakobud_step;
 pub use axis_calls::strakobud_step_by;
 pub use axis_calls::strakobud_wheel;
+pub use settle_calls::strakobud_settle;
+pub use settle_calls::strakobud_settle_by;
 pub use table_calls::strakobud_table_load;
 pub use table_calls::strakobud_table_t;

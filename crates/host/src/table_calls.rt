@@ -2,7 +2,7 @@
 ghost use mathlib.Core.Path.{_≡_};
 ghost use Prim.Native.Nat.{_*_, _<_, _≤_, _^_};
 ghost use lib.ListN.{length};
-ghost use Rattle.words.specs.Words.{putAt};
+ghost use Rattle.words.specs.Words.{longWords, putAt};
 ghost use Rattle.numbers.specs.Table.{Served};
 ghost use Rattle.host.specs.Table as Spec;
 
@@ -45,9 +45,7 @@ fn put_table(table: &mut [u8])
 
 fn put_entry(table: &mut [u8], k: usize, entry: u64)
     requires { ⌜ (length (now table) ≡ 8200) × (k < 1025) × (entry ≤ 2 ^ 40) ⌝ }
-    ensures { λ _. ⌜ now (table .exit) ≡ putAt (2 * k) (Spec.longWords entry) (now (table .entry)) ⌝ }
+    ensures { λ _. ⌜ now (table .exit) ≡ putAt (2 * k) (longWords entry) (now (table .entry)) ⌝ }
 {
-    let low = (entry % 4294967296) as u32;
-    let high = (entry / 4294967296) as u32;
-    words::put(table, 2 * k, &[low, high]);
+    words::put(table, 2 * k, &words::long_words(entry));
 }

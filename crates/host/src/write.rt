@@ -1,6 +1,6 @@
 // A state, and what a frame puts out besides it, written into bytes. An absent option is zeros.
 ghost use mathlib.Core.Path.{_≡_};
-ghost use Prim.Native.Nat.{_+_, _*_, _/_, _%_, _≤_};
+ghost use Prim.Native.Nat.{_+_, _*_, _≤_};
 ghost use lib.ListN.{length};
 ghost use Rattle.words.specs.Words.{bytesOf, putAt};
 ghost use Rattle.host.specs.Record as Spec;
@@ -124,29 +124,16 @@ pub fn flag_word(b: bool) -> u32
     if b { 1 } else { 0 }
 }
 
-// The halves of an f64's bits.
-fn low(bits: u64) -> u32
-    ensures { λ r. ⌜ r ≡ bits % 4294967296 ⌝ }
-{
-    (bits % 4294967296) as u32
-}
-
-fn high(bits: u64) -> u32
-    ensures { λ r. ⌜ r ≡ bits / 4294967296 ⌝ }
-{
-    (bits / 4294967296) as u32
-}
-
 fn target_words(target: MaybeTarget) -> [u32; 6]
     ensures { λ r. ⌜ r ≡ Spec.targetWords target ⌝ }
 {
     match target {
         MaybeTarget::Nothing => [0, 0, 0, 0, 0, 0],
         MaybeTarget::Toward(t) => {
-            let start = bits_of_f64(t.start);
-            let end = bits_of_f64(t.end);
+            let start = words::long_words(bits_of_f64(t.start));
+            let end = words::long_words(bits_of_f64(t.end));
             let goal = bits_of_f32(t.target_offset);
-            [1, low(start), high(start), low(end), high(end), goal]
+            [1, start[0], start[1], end[0], end[1], goal]
         }
     }
 }

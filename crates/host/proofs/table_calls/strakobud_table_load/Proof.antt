@@ -2,9 +2,9 @@ use mathlib.Core.Path.{sym, subst, _∙_}
 use native.Mathlib.Nat.{le-of-eq}
 use borrow.Author.Needs.{needs}
 use borrow.Author.Tests.{eqb-true, eqb-false}
+use Rattle.words.proofs.CopyLaws.{copied}
 use Rattle.numbers.specs.Table.{Served}
 use Rattle.host.specs.Table.{loadOn}
-use Rattle.host.proofs.TableLaws.{copied}
 use Rattle.host.proofs.table_calls.strakobud_table_load.Statement.{statement}
 use Rattle.host.proofs.table_calls.strakobud_table_load.Tie as tie
 

@@ -11,23 +11,29 @@ enum-known-target c = search needs
 bits-of-f64-requires : tie.Need-bits-of-f64-requires
 bits-of-f64-requires c κs = search needs
 
+long-words-requires : tie.Need-long-words-requires
+long-words-requires c κs = search needs
+
 bits-of-f64-requires-2 : tie.Need-bits-of-f64-requires-2
 bits-of-f64-requires-2 c κs = search needs
+
+long-words-requires-2 : tie.Need-long-words-requires-2
+long-words-requires-2 c κs = search needs
 
 bits-of-f32-requires : tie.Need-bits-of-f32-requires
 bits-of-f32-requires c κs = search needs
 
-low-requires : tie.Need-low-requires
-low-requires c κs = search needs
+array-read-t11 : tie.Need-array-read-t11
+array-read-t11 c = search needs
 
-high-requires : tie.Need-high-requires
-high-requires c κs = search needs
+array-read-t14 : tie.Need-array-read-t14
+array-read-t14 c = search needs
 
-low-requires-2 : tie.Need-low-requires-2
-low-requires-2 c κs = search needs
+array-read-t17 : tie.Need-array-read-t17
+array-read-t17 c = search needs
 
-high-requires-2 : tie.Need-high-requires-2
-high-requires-2 c κs = search needs
+array-read-t20 : tie.Need-array-read-t20
+array-read-t20 c = search needs
 
 returns : tie.Need-returns
 returns c = search needs
@@ -35,14 +41,12 @@ returns c = search needs
 returns-2 : tie.Need-returns-2
 returns-2 c =
     rw (
-      c .before .before .before .before .before .before .before .before .target .given .1,
-      ← c .before .before .before .before .before .before .bits-of-f64 .ensures,
-      ← c .before .before .before .before .before .bits-of-f642 .ensures,
-      ← c .before .before .before .before .bits-of-f32 .ensures,
-      ← c .before .before .before .low .ensures,
-      ← c .before .before .high .ensures,
-      ← c .before .low2 .ensures,
-      ← c .high2 .ensures,
+      c .before .before .before .before .before .before .target .given .1,
+      ← c .before .before .before .before .bits-of-f64 .ensures,
+      c .before .before .before .long-words .ensures,
+      ← c .before .before .bits-of-f642 .ensures,
+      c .before .long-words2 .ensures,
+      ← c .bits-of-f32 .ensures,
     )
 
 pub target-words-spec : {M : Type 1} → statement M
@@ -52,11 +56,13 @@ target-words-spec =
     enum-told
     enum-known-target
     bits-of-f64-requires
+    long-words-requires
     bits-of-f64-requires-2
+    long-words-requires-2
     bits-of-f32-requires
-    low-requires
-    high-requires
-    low-requires-2
-    high-requires-2
+    array-read-t11
+    array-read-t14
+    array-read-t17
+    array-read-t20
     returns
     returns-2)
