@@ -5,7 +5,7 @@ use std::thread;
 use oracle::frame_vectors::random_state;
 use oracle::host_calls;
 use oracle::random::Random;
-use oracle::records::{write_state, OutBytes, StateBytes};
+use oracle::records::{write_state, OutBytes, StateBytes, FLAGS};
 use oracle::scenes::{fling_list, scene_list};
 
 use crate::tables::{name_of, Lent, Pool, Serving};
@@ -16,9 +16,6 @@ pub const LIST: usize = 20_000;
 
 /// What a buffer holds that no call has written.
 const UNWRITTEN: u8 = 0xaa;
-
-/// The words of a state that are flags, numbered from 0.
-const FLAGS: [usize; 15] = [4, 10, 16, 17, 18, 19, 20, 21, 24, 26, 28, 29, 30, 35, 36];
 
 /// The buffers of one side.
 #[derive(Clone, Copy, PartialEq, Debug)]
@@ -63,7 +60,7 @@ impl Side {
 }
 
 /// A list, made in a thread of its own: the branches that it meets while it is made do not count.
-fn made(list: fn(u64, usize) -> Vec<Vec<u8>>, seed: u64, count: usize) -> Vec<Vec<u8>> {
+pub fn made<A: Send + 'static>(list: fn(u64, usize) -> Vec<A>, seed: u64, count: usize) -> Vec<A> {
     let made = thread::spawn(move || list(seed, count)).join();
     made.expect("the list is made")
 }

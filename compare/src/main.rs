@@ -1,10 +1,12 @@
 //! Runs the library and the oracle on the same bytes, in one process, and compares every byte left.
 //!
-//! `compare SEED FRAMES STATES CALLS UNDER`: frames of scenes from fresh states, frames on arbitrary states, axis calls; then, each that
-//! often, frames of both kinds and steps under tables and with T lent, and a tenth as many loads.
+//! `compare SEED FRAMES STATES CALLS UNDER RUNS`: frames of scenes from fresh states, frames on arbitrary states, axis calls; then, each that
+//! often, frames of both kinds and steps under tables and with T lent, and a tenth as many loads; then settling runs, each by T, with T lent
+//! and under tables. It fails where the two sides differ, and where the runs leave out an end or a ground that a run can have.
 
 mod calls;
 mod frames;
+mod runs;
 mod t_lent;
 mod tables;
 mod tally;
@@ -17,25 +19,28 @@ use tally::Tally;
 fn main() {
     let arguments: Vec<String> = env::args().skip(1).collect();
     let numbers: Option<Vec<u64>> = arguments.iter().map(|word| word.parse().ok()).collect();
-    let Some([seed, frames, states, calls, under]) = numbers.as_deref() else {
-        eprintln!("usage: compare SEED FRAMES STATES CALLS UNDER");
+    let Some([seed, frames, states, calls, under, runs]) = numbers.as_deref() else {
+        eprintln!("usage: compare SEED FRAMES STATES CALLS UNDER RUNS");
         process::exit(2)
     };
     let mut tally = Tally::default();
     frames::from_fresh_states(&mut tally, None, *seed, *frames);
     frames::from_arbitrary_states(&mut tally, None, *seed, *states);
     calls::axis_calls(&mut tally, *seed, *calls);
-    under_tables(&mut tally, *seed, *under);
+    let pool = Pool::new(&mut tally, *seed);
+    under_tables(&mut tally, &pool, *seed, *under);
+    runs::by_t(&mut tally, &pool.t, *seed, *runs);
+    runs::under_tables(&mut tally, &pool, *seed, *runs);
     tally.print();
-    process::exit(i32::from(tally.different > 0));
+    let is_whole = *runs == 0 || tally.has_every_end_of_runs();
+    process::exit(i32::from(tally.different > 0 || !is_whole));
 }
 
-fn under_tables(tally: &mut Tally, seed: u64, count: u64) {
-    let pool = Pool::new(tally, seed);
+fn under_tables(tally: &mut Tally, pool: &Pool, seed: u64, count: u64) {
     tables::loads(tally, seed, count / 10);
-    frames::from_fresh_states(tally, Some(&pool), seed, count);
-    frames::from_arbitrary_states(tally, Some(&pool), seed, count);
-    calls::steps_under(tally, &pool, seed, count);
+    frames::from_fresh_states(tally, Some(pool), seed, count);
+    frames::from_arbitrary_states(tally, Some(pool), seed, count);
+    calls::steps_under(tally, pool, seed, count);
     t_lent::frames(tally, &pool.t, seed, count);
     t_lent::steps(tally, &pool.t, seed, count);
 }

@@ -1,4 +1,4 @@
-//! How often each branch of `begin`, `end`, exp and a table's load is met; without the feature `branches` nothing is counted.
+//! How often each branch of `begin`, `end`, exp, a table's load and a run is met; without the feature `branches` nothing is counted.
 
 macro_rules! branches {
     ($($branch:ident $words:literal)*) => {
@@ -72,6 +72,37 @@ branches! {
     TableFirst "table with another first entry: 11"
     TableOrder "table with an entry above the one before: 11"
     TableLoads "table that loads"
+    RunRests "run that rests"
+    RunRestsAtLimit "run that rests in the last frame of its limit"
+    RunAtLimit "run that its limit ends"
+    RunInside3 "run refused inside: 3"
+    RunInside8 "run refused inside, after a frame: 8"
+    RunFirst8 "run refused inside, at its first frame: 8"
+    RunRefused1 "run refused up front: 1"
+    RunRefused2 "run refused up front: 2"
+    RunRefused3 "run refused up front: 3"
+    RunRefused4 "run refused up front: 4"
+    RunRefused5 "run refused up front: 5"
+    RunRefused6 "run refused up front, by a number of the state: 6"
+    RunFlag6 "run refused up front, by a flag of the record: 6"
+    RunRefused9 "run refused up front: 9"
+    OnlyLimitZero "run refused by a limit of 0 alone: 9"
+    OnlyLimitAbove "run refused by a limit above 10,000 alone: 9"
+    OnlyIncrementBelow "run refused by an increment below 0 alone: 9"
+    OnlyIncrementAbove "run refused by an increment above 1 alone: 9"
+    OnlyIncrementNan "run refused by an increment that is not a number alone: 9"
+    OnlyWord15 "run refused by word 15 alone: 9"
+    OnlyWord17 "run refused by word 17 alone: 9"
+    OnlyWord61 "run refused by word 61 alone: 9"
+    OnlyWord62 "run refused by word 62 alone: 9"
+    OnlyWord64 "run refused by word 64 alone: 9"
+    OnlyWord65 "run refused by word 65 alone: 9"
+    OnlyWord74 "run refused by word 74 alone: 9"
+    OnlyWord79 "run refused by word 79 alone: 9"
+    OnlyWord86 "run refused by word 86 alone: 9"
+    OnlyWord87 "run refused by word 87 alone: 9"
+    OnlyWord91 "run refused by word 91 alone: 9"
+    OnlyWord98 "run refused by word 98 alone: 9"
 }
 
 /// Those that frames without a table cannot meet.
@@ -84,6 +115,9 @@ pub const OF_TABLES: [Branch; 7] = [
     Branch::TableOrder,
     Branch::TableLoads,
 ];
+
+/// Those that frames alone cannot meet: a run's, from the first of them on.
+pub const OF_RUNS: &[(Branch, &str)] = BRANCHES.split_at(Branch::RunRests as usize).1;
 
 #[cfg(feature = "branches")]
 mod counts {

@@ -31,13 +31,13 @@ pub fn frame_refusal(bytes: &[u8]) -> u32 {
 }
 
 /// The word of that number.
-fn word(frame: &[u8], number: usize) -> u32 {
+pub(crate) fn word(frame: &[u8], number: usize) -> u32 {
     let end = 4 * number;
     u32::from_le_bytes(frame[end - 4..end].try_into().expect("four bytes"))
 }
 
 /// The word of that number, read as binary32.
-fn float(frame: &[u8], number: usize) -> f32 {
+pub(crate) fn float(frame: &[u8], number: usize) -> f32 {
     f32::from_bits(word(frame, number))
 }
 
@@ -110,11 +110,15 @@ fn unbounded_numbers_hold(frame: &[u8]) -> bool {
     })
 }
 
+/// Words 52 and 53, the low one first.
+pub(crate) fn time(frame: &[u8]) -> f64 {
+    let (low, high) = (word(frame, 52), word(frame, 53));
+    f64::from_bits(u64::from(high) << 32 | u64::from(low))
+}
+
 /// Check 3: "time"; -0 compares equal to 0, and not-a-number is outside.
 fn time_holds(frame: &[u8]) -> bool {
-    let (low, high) = (word(frame, 52), word(frame, 53));
-    let time = f64::from_bits(u64::from(high) << 32 | u64::from(low));
-    (0.0..=LATEST).contains(&time)
+    (0.0..=LATEST).contains(&time(frame))
 }
 
 /// Check 4: "end not below start", each end with its start.

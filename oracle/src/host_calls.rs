@@ -8,6 +8,7 @@ use crate::frame_checks::frame_refusal;
 use crate::frame_state::State;
 use crate::records::{read_state, write_output, write_state, OutBytes, Reader, StateBytes, Writer};
 use crate::scroll_physics::{scroll_bounds, WheelScroll};
+use crate::settling_run::{frames_until_rest, refusal_up_front};
 use crate::tables::{self, Table, TableBytes};
 
 pub fn fresh(state: &mut StateBytes) {
@@ -39,6 +40,38 @@ pub fn frame_by(
     out: &mut OutBytes,
 ) -> u32 {
     tables::under(table, || frame(state, bytes, out))
+}
+
+/// A settling run's increment, low word first, and its limit.
+pub type RunBytes = [u8; 12];
+
+/// 0 or the refusal; on one up front neither buffer changes, on one inside both hold what the frames before it led to.
+pub fn settle(state: &mut StateBytes, frame: &[u8], run: &RunBytes, used: &mut [u8; 4]) -> u32 {
+    let mut reader = Reader::of(run);
+    let (increment, limit) = (reader.double(), reader.word());
+    let given = read_state(state);
+    let refusal = refusal_up_front(given.as_ref(), frame, increment, limit);
+    let (0, Some(given)) = (refusal, given) else {
+        return refusal;
+    };
+    let settled = frames_until_rest(given, frame, increment, limit);
+    *used = settled.used.to_le_bytes();
+    // Where no frame was used the record is the one given, with whatever its absent options hold.
+    if settled.used > 0 {
+        write_state(&settled.state, state);
+    }
+    settled.refusal
+}
+
+/// The same under a table.
+pub fn settle_by(
+    state: &mut StateBytes,
+    frame: &[u8],
+    table: &'static Table,
+    run: &RunBytes,
+    used: &mut [u8; 4],
+) -> u32 {
+    tables::under(table, || settle(state, frame, run, used))
 }
 
 /// 0 or the refusal; on a refusal the table does not change.

@@ -9,6 +9,12 @@ use crate::scroll_physics::{AxisPhysics, KineticScrollStyle, MouseWheelSource};
 /// A state's record.
 pub type StateBytes = [u8; 148];
 
+/// The words of a state's record that are flags, numbered from 0.
+pub const FLAGS: [usize; 15] = [4, 10, 16, 17, 18, 19, 20, 21, 24, 26, 28, 29, 30, 35, 36];
+
+/// The options of a state's record: the flag's word, and how many words follow it.
+pub const OPTIONS: [(usize, usize); 5] = [(4, 5), (10, 5), (24, 1), (26, 1), (30, 4)];
+
 /// The record of what a frame puts out besides the state.
 pub type OutBytes = [u8; 100];
 
@@ -72,7 +78,7 @@ impl Reader<'_> {
         Reader { rest: bytes }
     }
 
-    fn word(&mut self) -> u32 {
+    pub fn word(&mut self) -> u32 {
         let (word, rest) = self.rest.split_first_chunk().expect("a word is left");
         self.rest = rest;
         u32::from_le_bytes(*word)
@@ -87,7 +93,7 @@ impl Reader<'_> {
     }
 
     /// The low word first.
-    fn double(&mut self) -> f64 {
+    pub fn double(&mut self) -> f64 {
         let low = u64::from(self.word());
         f64::from_bits(u64::from(self.word()) << 32 | low)
     }

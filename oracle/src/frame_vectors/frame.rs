@@ -10,6 +10,11 @@ impl Frame {
     /// All words 0, which is no good frame yet.
     pub const ZEROS: Frame = Frame([0; 104]);
 
+    /// The frame of these words.
+    pub fn of(words: [u32; 104]) -> Frame {
+        Frame(words)
+    }
+
     /// The word of that number.
     pub fn word(&self, number: usize) -> u32 {
         self.0[number - 1]

@@ -1,0 +1,195 @@
+//! Pseudo-random runs: on the states that scenes lead to and on any others, with frames that mostly move no axis.
+
+use super::{Call, Record, Run};
+use crate::frame_call::frame_call;
+use crate::frame_checks::LENGTH;
+use crate::frame_state::State;
+use crate::frame_vectors::{random_state, Frame};
+use crate::random::Random;
+use crate::records::FLAGS as FLAGS_OF_STATE;
+use crate::scenes::{fling_list, scene_list};
+use crate::settling_run::MOST_FRAMES;
+use crate::tables::{bytes_of, random_good, random_refused};
+use crate::words::from_bytes;
+
+/// Flags that are 1 where hand or program moves an axis.
+const FLAGS: [usize; 8] = [15, 17, 61, 62, 74, 79, 91, 98];
+
+/// The wheel's and the scroll delta.
+const DELTAS: [usize; 4] = [64, 65, 86, 87];
+
+/// 2^32, the last time.
+const LATEST: f64 = 4_294_967_296.0;
+
+/// The longest frame of a run, eight bytes too long.
+const LONGEST: usize = LENGTH + 8;
+
+/// That many pseudo-random records, a load now and then.
+pub fn random_list(seed: u64, count: usize) -> Vec<Record> {
+    let random = &mut Random::new(seed);
+    let mut calls = scene_calls(random.long(), count / 2 + 1);
+    calls.extend(arbitrary_calls(random.long(), count / 2 + 1));
+    let mut calls = calls.into_iter().cycle();
+    let mut record = |_| match random.below(32) {
+        0 => Record::Load(table(random)),
+        kind => {
+            let run = on_any_record(random, &calls.next().expect("a run"));
+            match kind % 2 {
+                0 => Record::Run(run),
+                _ => Record::RunBy(run),
+            }
+        }
+    };
+    (0..count).map(&mut record).collect()
+}
+
+fn table(random: &mut Random) -> Vec<u8> {
+    match random.below(4) {
+        0 => random_refused(random),
+        1 => Vec::new(),
+        _ => bytes_of(&random_good(random)).to_vec(),
+    }
+}
+
+/// The run on a record: with anything in every other one's absent options and in the buffer, and at times with a damaged flag.
+pub fn on_any_record(random: &mut Random, call: &Call) -> Run {
+    let mut run = Run::of(call);
+    // No run uses so many.
+    run.used = (random.word() | 1 << 31).to_le_bytes();
+    if random.below(2) == 0 {
+        run = run.with_absent(|| random.word());
+    }
+    if random.below(64) == 0 {
+        let flag = FLAGS_OF_STATE[random.below(FLAGS_OF_STATE.len())];
+        run.state[4 * flag + random.below(4)] = 2 + random.below(254) as u8;
+    }
+    run
+}
+
+/// Scenes and flings by turns, with one short frame at the most.
+fn frames(random: &mut Random, count: usize) -> Vec<Vec<u8>> {
+    match random.below(2) {
+        0 => scene_list(random.long(), count),
+        _ => fling_list(random.long(), count),
+    }
+}
+
+/// That many runs, each on the state that the frames of scenes before it led to.
+pub fn scene_calls(seed: u64, count: usize) -> Vec<Call> {
+    let random = &mut Random::new(seed);
+    let mut state = State::default();
+    let mut call = |frame: Vec<u8>| {
+        let call = random_call(random, state, &frame);
+        state = frame_call(state, &frame).state;
+        call
+    };
+    let frames = frames(&mut Random::new(!seed), count);
+    frames.into_iter().map(&mut call).collect()
+}
+
+/// That many runs, each on a state of its own, at times one that is far out and fast.
+pub fn arbitrary_calls(seed: u64, count: usize) -> Vec<Call> {
+    let random = &mut Random::new(seed);
+    let mut call = |frame: Vec<u8>| {
+        let mut state = random_state(random);
+        if random.below(16) == 0 {
+            hurl(random, &mut state);
+        }
+        random_call(random, state, &frame)
+    };
+    let frames = frames(&mut Random::new(!seed), count);
+    frames.into_iter().map(&mut call).collect()
+}
+
+/// Numbers near the largest, so that a frame or the one after it leaves the finite ones.
+fn hurl(random: &mut Random, state: &mut State) {
+    let far = |random: &mut Random| f32::MAX * (2.0 * random.unit() - 1.0) as f32;
+    for d in 0..2 {
+        state.vel[d] = far(random);
+        if random.below(2) == 0 {
+            state.offset[d] = far(random);
+        }
+        state.content_is_too_large[d] = true;
+    }
+}
+
+fn random_call(random: &mut Random, state: State, bytes: &[u8]) -> Call {
+    let increment = increment(random, bytes);
+    let mut frame = match random.below(8) {
+        0 => bytes.to_vec(),
+        _ => stilled(random, bytes, increment),
+    };
+    if random.below(128) == 0 {
+        let near = 410 + random.below(15);
+        frame.resize([near, random.below(LONGEST + 1)][random.below(2)], 0);
+    }
+    Call {
+        state,
+        frame,
+        increment,
+        limit: limit(random),
+    }
+}
+
+/// The frame without what moves an axis, at times but for one word, and at times late; a short frame stays.
+fn stilled(random: &mut Random, bytes: &[u8], increment: f64) -> Vec<u8> {
+    if bytes.len() != LENGTH {
+        return bytes.to_vec();
+    }
+    let words = from_bytes(bytes).try_into().expect("104 words");
+    let zero = random.one_of(&[0, 0x8000_0000]);
+    let mut frame = Frame::of(words).with_all(FLAGS, 0).with_all(DELTAS, zero);
+    if random.below(16) == 0 {
+        frame = match random.below(12) {
+            flag @ ..8 => frame.with(FLAGS[flag], 1),
+            delta => frame.with(DELTAS[delta - 8], random.word() >> 2),
+        };
+    }
+    if random.below(16) == 0 {
+        let late = LATEST - random.below(40) as f64 * increment;
+        frame = frame.with_time(late.to_bits());
+    }
+    frame.bytes()
+}
+
+/// Mostly some frames, at times hundreds or thousands, and what no limit may be.
+fn limit(random: &mut Random) -> u32 {
+    let most = MOST_FRAMES;
+    match random.below(256) {
+        0..=1 => random.one_of(&[most - 1, most]),
+        2..=5 => random.one_of(&[0, most + 1, u32::MAX]),
+        6..=7 => random.word(),
+        8..=11 => 1,
+        12..=13 => 1 + random.below(most as usize) as u32,
+        14..=33 => 1 + random.below(600) as u32,
+        _ => 1 + random.below(60) as u32,
+    }
+}
+
+/// Mostly a screen's or the frame's own length, also none, all that may be, and what may not.
+fn increment(random: &mut Random, bytes: &[u8]) -> f64 {
+    let ends = [0.0f64, -0.0, 1.0, -1.0, f64::NAN, f64::INFINITY];
+    let end = ends[random.below(ends.len())];
+    match random.below(32) {
+        0..=1 => end,
+        2 => f64::from_bits(
+            end.to_bits()
+                .wrapping_add(random.below(5) as u64)
+                .wrapping_sub(2),
+        ),
+        3 => f64::from_bits(random.long()),
+        // As long as the last times are apart, or less.
+        4..=5 => random.unit() / 524_288.0,
+        6..=11 => random.unit(),
+        12..=19 => own_length(bytes),
+        _ => [1.0 / 60.0, 0.016, 1.0 / 120.0, 0.1][random.below(4)],
+    }
+}
+
+/// Word 51, `stable_dt`.
+fn own_length(bytes: &[u8]) -> f64 {
+    let dt = bytes.get(200..204).map_or(0.0, |word| {
+        f32::from_le_bytes(word.try_into().expect("four bytes"))
+    });
+    f64::from(dt)
+}

@@ -1,0 +1,89 @@
+//! A run in the bytes that the library takes; some records are those of no state.
+
+use super::Call;
+use crate::host_calls::{settle, settle_by, RunBytes};
+use crate::records::{write_state, StateBytes, OPTIONS};
+use crate::tables::Table;
+use crate::words::{from_bytes, in_bytes};
+
+/// How many bytes of a frame are stored.
+const STORED: usize = 424;
+
+/// What the buffer for the frames used holds if nothing else is said; no run uses so many.
+pub const UNWRITTEN: [u8; 4] = [0xff; 4];
+
+/// What the call is handed.
+#[derive(Clone, Debug)]
+pub struct Run {
+    pub state: StateBytes,
+    pub frame: Vec<u8>,
+    pub run: RunBytes,
+    pub used: [u8; 4],
+}
+
+/// The answer, and what both buffers hold after the call.
+#[derive(Clone, Copy, Debug, PartialEq)]
+pub struct Left {
+    pub refusal: u32,
+    pub state: StateBytes,
+    pub used: [u8; 4],
+}
+
+impl Run {
+    /// On the record of the call's state, with zeros for absent options.
+    pub fn of(call: &Call) -> Run {
+        let mut state = [0; 148];
+        write_state(&call.state, &mut state);
+        Run {
+            state,
+            frame: call.frame.clone(),
+            run: in_bytes(&call.run()).try_into().expect("three words"),
+            used: UNWRITTEN,
+        }
+    }
+
+    /// With that word of the record, numbered from 0.
+    pub fn with(mut self, word: usize, bits: u32) -> Run {
+        self.state[4 * word..][..4].copy_from_slice(&bits.to_le_bytes());
+        self
+    }
+
+    /// With such words behind the flags of absent options.
+    pub fn with_absent(mut self, mut word: impl FnMut() -> u32) -> Run {
+        let given = from_bytes(&self.state);
+        for (flag, words) in OPTIONS {
+            if given[flag] == 0 {
+                self = (1..=words).fold(self, |run, i| run.with(flag + i, word()));
+            }
+        }
+        self
+    }
+
+    pub fn limit(&self) -> u32 {
+        from_bytes(&self.run)[2]
+    }
+
+    /// By T, or under a table.
+    pub fn left(&self, table: Option<&'static Table>) -> Left {
+        let (mut state, mut used) = (self.state, self.used);
+        let refusal = match table {
+            None => settle(&mut state, &self.frame, &self.run, &mut used),
+            Some(table) => settle_by(&mut state, &self.frame, table, &self.run, &mut used),
+        };
+        Left {
+            refusal,
+            state,
+            used,
+        }
+    }
+
+    /// The frame's length, its bytes followed by zeros, the state, the increment and the limit, the buffer for the frames used.
+    pub(super) fn stored(&self) -> Vec<u8> {
+        // A longer frame could not be stored whole.
+        assert!(self.frame.len() <= STORED);
+        let mut frame = self.frame.clone();
+        frame.resize(STORED, 0);
+        let length = (self.frame.len() as u32).to_le_bytes();
+        [&length, &frame[..], &self.state, &self.run, &self.used].concat()
+    }
+}
