@@ -64,6 +64,18 @@ def number(x):
     return struct.unpack("<I", struct.pack("<f", x))[0]
 
 
+def time_words(second):
+    return struct.unpack("<II", struct.pack("<d", second))
+
+
+def replaced(record, words):
+    """A frame or a state with these words, by number, in the place of its own."""
+    record = bytearray(record)
+    for at, value in words.items():
+        struct.pack_into("<I", record, 4 * at - 4, value if isinstance(value, int) else number(value))
+    return bytes(record)
+
+
 def frame(n):
     """The 104 words of frame n; a word's number is its place in document 01's layout."""
     words = [0] * 105
@@ -84,7 +96,7 @@ def frame(n):
     put(44, 0.0, 0.0, 200.0, HEIGHT)
     put(48, 1, 1)  # enabled, touch
     put(51, 1.0 / RATE)
-    words[52], words[53] = struct.unpack("<II", struct.pack("<d", second))
+    put(52, *time_words(second))
     put(54, 1, 100.0, 50.0)  # the finger
     put(57, 0.0, delta, 0.0, velocity, dragged, stopped)
     put(82, 180.0, rows_at(second) * ROW)

@@ -23,6 +23,10 @@
  *   8  a number among the outputs is not finite
  * The lowest that applies is answered; 7 goes before 8. A word inside an option whose flag is 0 is not looked at.
  *
+ * And of a settling run, after 6 and ahead of its first frame:
+ *   9  the limit is 0 or above 10,000, the increment is not from 0 to 1, or the frame moves an axis by hand or program: a
+ *      flag in words 15, 17, 61, 62, 74, 79, 91 or 98 is 1, or a number in words 64, 65, 86 or 87 is not 0, heeded or not
+ *
  * And of a table, when it is loaded:
  *  10  it is not 8,200 bytes long
  *  11  its first entry is not 2^40, or an entry is above the one before it
@@ -52,6 +56,8 @@ extern "C" {
 #define STRAKOBUD_FRAME_BYTES 416
 #define STRAKOBUD_OUT_BYTES 100
 #define STRAKOBUD_TABLE_BYTES 8200
+#define STRAKOBUD_RUN_BYTES 12
+#define STRAKOBUD_USED_BYTES 4
 
 /* Writes a fresh state: at the start, at rest, stuck to the end.
  *
@@ -93,6 +99,28 @@ void strakobud_table_t(uint8_t table[STRAKOBUD_TABLE_BYTES]);
  * above 2^40 counts as 2^40, and the answer is defined. */
 uint32_t strakobud_frame_by(uint8_t state[STRAKOBUD_STATE_BYTES], const uint8_t *frame, size_t len,
                             const uint8_t table[STRAKOBUD_TABLE_BYTES], uint8_t out[STRAKOBUD_OUT_BYTES]);
+
+/* The settling run: frame after frame from the one given, until the list rests, that is up to and with the first frame
+ * that wants no repaint, or until the limit. The 3 words of run: the increment, as a time, and the limit of frames. After
+ * each frame the time (words 52, 53) becomes time + increment, in the call's own copy of the frame; stable_dt stays.
+ *
+ * 1 to 6 or 9 ahead of the first frame: neither buffer is changed. After that used holds the frames used, in one word,
+ * and the state is the one after them, also where a frame inside was refused and ended the run with its number: 8, or 3
+ * once the time is above 2^32, and no other. If that was the first one, with 8, 0 are used and the state is as given. With
+ * used set to 0 before the call it is right after every answer. A frame that was cleared of its input, as above, moves no
+ * axis.
+ *
+ * Rest is not stillness. A held overscroll rests with the velocity that it keeps. With rubber band off, a list that has
+ * run into its end stands there, and rests once its velocity has decayed. The limit alone ends a run with a stop_distance
+ * of 0, also of a list that stands still; one of a coasting list with a stable_dt of 0; and one with a scroll target whose
+ * start the clock does not reach, or whose span it stands in with an increment and a stable_dt of 0. */
+uint32_t strakobud_settle(uint8_t state[STRAKOBUD_STATE_BYTES], const uint8_t *frame, size_t len,
+                          const uint8_t run[STRAKOBUD_RUN_BYTES], uint8_t used[STRAKOBUD_USED_BYTES]);
+
+/* strakobud_settle under a table, in all its frames. */
+uint32_t strakobud_settle_by(uint8_t state[STRAKOBUD_STATE_BYTES], const uint8_t *frame, size_t len,
+                             const uint8_t table[STRAKOBUD_TABLE_BYTES], const uint8_t run[STRAKOBUD_RUN_BYTES],
+                             uint8_t used[STRAKOBUD_USED_BYTES]);
 
 /* The shown offset x, y, by which the list is drawn: the stored one held to its range. 0, or 6 for a state with a flag
  * that is not 0 or 1, with out as it was. */

@@ -12,35 +12,72 @@ pub type OutBytes = [u8; 100];
 
 const LENGTH: usize = 416;
 
-/// `SIDE FILE COUNT`: runs that many frames of the file, over and over, on one state, and prints the nanoseconds per frame and a
-/// sum over all answers. `SIDE FILE COUNT stack` prints the bytes of stack that the deepest of these calls took.
+/// The frames of a settling run.
+const FRAMES: u32 = 1000;
+
+/// `SIDE FILE COUNT`: runs that many frames of the file, over and over, on one state, and prints the nanoseconds, a sum over all
+/// answers and one over the last state. `SIDE FILE COUNT stack` prints the bytes of stack that the deepest of these calls
+/// took. With `flung` after these the list has a velocity at the start.
 pub fn drive(
     fresh: fn(&mut StateBytes),
     frame: impl Fn(&mut StateBytes, &[u8], &mut OutBytes) -> u32,
 ) {
     let arguments: Vec<String> = env::args().collect();
     let [_, file, count, mode @ ..] = &arguments[..] else {
-        panic!("usage: SIDE FILE COUNT [stack]")
+        panic!("usage: SIDE FILE COUNT [stack] [flung]")
     };
+    let is_given = |word: &str| mode.iter().any(|given| given == word);
     let bytes = fs::read(file).expect("the frames are read");
     let count: usize = count.parse().expect("a count");
     let frames = bytes.chunks_exact(LENGTH).cycle().take(count);
-    let (mut state, mut out) = ([0; 148], [0; 100]);
+    let mut state = [0; 148];
     fresh(&mut state);
-    if mode.is_empty() {
+    if is_given("flung") {
+        // word 24 of a state: 300 points per second on y
+        state[92..96].copy_from_slice(&300_f32.to_le_bytes());
+    }
+    if !is_given("stack") {
         let begin = Instant::now();
-        let mut sum = 0u64;
-        for bytes in frames {
-            let refusal = frame(black_box(&mut state), black_box(bytes), &mut out);
-            sum = sum.wrapping_mul(31).wrapping_add(u64::from(refusal));
-            sum = sum.wrapping_add(u64::from(state[4]) + u64::from(out[8]));
-        }
-        let nanoseconds = begin.elapsed().as_nanos() as f64 / count.max(1) as f64;
-        println!("{nanoseconds:.1} {sum:016x}");
+        let sum = sum_of_answers(frames, &mut state, frame);
+        // A whole number, since what writing out a fraction takes depends on its digits.
+        let nanoseconds = begin.elapsed().as_nanos() as u64;
+        println!("{nanoseconds} {sum:016x} {:016x}", sum_of(&state));
     } else {
+        let mut out = [0; 100];
         let depths = frames.map(|bytes| depth_of(|| frame(&mut state, bytes, &mut out)));
         println!("{}", depths.max().unwrap_or(0));
     }
+}
+
+/// The loop that is timed and counted, by itself, so that nothing else in the driver changes how it is compiled.
+#[inline(never)]
+fn sum_of_answers<'a>(
+    frames: impl Iterator<Item = &'a [u8]>,
+    state: &mut StateBytes,
+    frame: impl Fn(&mut StateBytes, &[u8], &mut OutBytes) -> u32,
+) -> u64 {
+    let (mut sum, mut out) = (0u64, [0; 100]);
+    for bytes in frames {
+        let refusal = frame(black_box(state), black_box(bytes), &mut out);
+        sum = sum.wrapping_mul(31).wrapping_add(u64::from(refusal));
+        sum = sum.wrapping_add(u64::from(state[4]) + u64::from(out[8]));
+    }
+    sum
+}
+
+fn sum_of(bytes: &[u8]) -> u64 {
+    let add = |sum: u64, byte: &u8| sum.wrapping_mul(31).wrapping_add(u64::from(*byte));
+    bytes.iter().fold(0, add)
+}
+
+/// One settling run by that call, in sixtieths of a second, which has to use all its frames.
+pub fn run(settle: impl FnOnce(&[u8; 12], &mut [u8; 4]) -> u32) -> u32 {
+    let (mut run, mut used) = ([0; 12], [0; 4]);
+    run[..8].copy_from_slice(&(1.0 / 60.0_f64).to_le_bytes());
+    run[8..].copy_from_slice(&FRAMES.to_le_bytes());
+    let refusal = settle(&run, &mut used);
+    assert_eq!(u32::from_le_bytes(used), FRAMES, "the run ended before");
+    refusal
 }
 
 /// What the stack below a call is filled with.

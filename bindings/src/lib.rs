@@ -9,6 +9,12 @@ pub type OutBytes = [u8; 100];
 /// A maker's table, as loaded.
 pub type TableBytes = [u8; 8200];
 
+/// A settling run's increment and limit.
+pub type RunBytes = [u8; 12];
+
+/// The frames that a settling run used.
+pub type UsedBytes = [u8; 4];
+
 mod c {
     extern "C" {
         pub fn strakobud_fresh(state: *mut u8);
@@ -19,6 +25,21 @@ mod c {
             len: usize,
             table: *const u8,
             out: *mut u8,
+        ) -> u32;
+        pub fn strakobud_settle(
+            state: *mut u8,
+            frame: *const u8,
+            len: usize,
+            run: *const u8,
+            used: *mut u8,
+        ) -> u32;
+        pub fn strakobud_settle_by(
+            state: *mut u8,
+            frame: *const u8,
+            len: usize,
+            table: *const u8,
+            run: *const u8,
+            used: *mut u8,
         ) -> u32;
         pub fn strakobud_table_load(bytes: *const u8, len: usize, table: *mut u8) -> u32;
         pub fn strakobud_table_t(table: *mut u8);
@@ -49,6 +70,23 @@ pub fn frame_by(
 ) -> u32 {
     let (bytes, len, table) = (frame.as_ptr(), frame.len(), table.as_ptr());
     unsafe { c::strakobud_frame_by(state.as_mut_ptr(), bytes, len, table, out.as_mut_ptr()) }
+}
+
+pub fn settle(state: &mut StateBytes, frame: &[u8], run: &RunBytes, used: &mut UsedBytes) -> u32 {
+    let (bytes, len, run) = (frame.as_ptr(), frame.len(), run.as_ptr());
+    unsafe { c::strakobud_settle(state.as_mut_ptr(), bytes, len, run, used.as_mut_ptr()) }
+}
+
+pub fn settle_by(
+    state: &mut StateBytes,
+    frame: &[u8],
+    table: &TableBytes,
+    run: &RunBytes,
+    used: &mut UsedBytes,
+) -> u32 {
+    let (bytes, len, table, run) = (frame.as_ptr(), frame.len(), table.as_ptr(), run.as_ptr());
+    let state = state.as_mut_ptr();
+    unsafe { c::strakobud_settle_by(state, bytes, len, table, run, used.as_mut_ptr()) }
 }
 
 pub fn table_load(bytes: &[u8], table: &mut TableBytes) -> u32 {

@@ -1,6 +1,6 @@
 /* A list of events on a panel: rows arrive and the list stays on its last entry. A row that arrives with a touch sample that
  * is not a number is refused with it, and shown once the frame is run again without its input. Then a table for the decay is
- * loaded and serves. */
+ * loaded and serves; and somebody flicks the list, which coasts until it rests. */
 #include <inttypes.h>
 #include <math.h>
 #include <stdio.h>
@@ -9,25 +9,39 @@
 #include "strakobud.h"
 
 /* Words are numbered from 1, as in the header. */
-static void put_word(uint8_t *frame, int number, uint32_t word)
+static void put_word(uint8_t *record, int number, uint32_t word)
 {
     for (int i = 0; i < 4; i++)
-        frame[4 * (number - 1) + i] = (uint8_t)(word >> (8 * i));
+        record[4 * (number - 1) + i] = (uint8_t)(word >> (8 * i));
 }
 
-static void put_number(uint8_t *frame, int number, float x)
+static void put_number(uint8_t *record, int number, float x)
 {
     uint32_t word;
     memcpy(&word, &x, sizeof word);
-    put_word(frame, number, word);
+    put_word(record, number, word);
+}
+
+static void put_time(uint8_t *record, int number, double x)
+{
+    uint64_t bits;
+    memcpy(&bits, &x, sizeof bits);
+    put_word(record, number, (uint32_t)bits);
+    put_word(record, number + 1, (uint32_t)(bits >> 32));
+}
+
+static uint32_t word_at(const uint8_t *record, int number)
+{
+    uint32_t word = 0;
+    for (int i = 3; i >= 0; i--)
+        word = word << 8 | record[4 * (number - 1) + i];
+    return word;
 }
 
 static float number_at(const uint8_t *record, int number)
 {
-    uint32_t word = 0;
+    uint32_t word = word_at(record, number);
     float x;
-    for (int i = 3; i >= 0; i--)
-        word = word << 8 | record[4 * (number - 1) + i];
     memcpy(&x, &word, sizeof x);
     return x;
 }
@@ -79,6 +93,35 @@ static void load(const char *what)
     printf("%s: load %" PRIu32 "\n", what, strakobud_table_load(shipped, sizeof shipped, table));
 }
 
+/* The list is pulled down by 30 points and let go. */
+static void flick(uint8_t *state, uint8_t *frame)
+{
+    uint8_t out[STRAKOBUD_OUT_BYTES];
+    put_word(frame, 20, 2); /* a drag always scrolls */
+    put_word(frame, 48, 1); /* enabled */
+    put_number(frame, 51, 1.0f / 60); /* stable_dt */
+    put_word(frame, 61, 1); /* dragged, by */
+    put_number(frame, 58, 30);
+    show("pulled", strakobud_frame(state, frame, STRAKOBUD_FRAME_BYTES, out), state);
+    clear_input(frame);
+    put_word(frame, 62, 1); /* drag stopped, at points per second of */
+    put_number(frame, 60, 300);
+    show("let go", strakobud_frame(state, frame, STRAKOBUD_FRAME_BYTES, out), state);
+    clear_input(frame);
+}
+
+/* Frames of a sixtieth of a second until the list rests, at most 10,000. */
+static void settle(uint8_t *state, const uint8_t *frame)
+{
+    uint8_t run[STRAKOBUD_RUN_BYTES], used[STRAKOBUD_USED_BYTES] = {0};
+    char what[40];
+    put_time(run, 1, 1.0 / 60);
+    put_word(run, 3, 10000);
+    uint32_t refusal = strakobud_settle(state, frame, STRAKOBUD_FRAME_BYTES, run, used);
+    snprintf(what, sizeof what, "%" PRIu32 " frames until it rests", word_at(used, 1));
+    show(what, refusal, state);
+}
+
 int main(void)
 {
     uint8_t state[STRAKOBUD_STATE_BYTES], frame[STRAKOBUD_FRAME_BYTES], out[STRAKOBUD_OUT_BYTES];
@@ -103,5 +146,8 @@ int main(void)
     show("23 rows, by the table", strakobud_frame_by(state, frame, sizeof frame, table, out), state);
     shipped[0] = 1; /* its first entry is no longer 2^40 */
     load("a damaged table");
+
+    flick(state, frame);
+    settle(state, frame);
     return 0;
 }

@@ -1,6 +1,6 @@
 //! A list of events on a panel: rows arrive and the list stays on its last entry. A row that arrives with a touch sample that is
 //! not a number is refused with it, and shown once the frame is run again without its input. Then a table for the decay is loaded
-//! and serves. Words are numbered from 1, as in include/strakobud.h.
+//! and serves; and somebody flicks the list, which coasts until it rests. Words are numbered from 1, as in include/strakobud.h.
 
 struct Frame([u8; 416]);
 
@@ -64,6 +64,34 @@ fn load(what: &str, shipped: &[u8], table: &mut strakobud::TableBytes) {
     println!("{what}: load {}", strakobud::table_load(shipped, table));
 }
 
+/// The list is pulled down by 30 points and let go.
+fn flick(state: &mut strakobud::StateBytes, frame: &mut Frame) {
+    let mut out = [0; 100];
+    frame.word(20, 2); // a drag always scrolls
+    frame.word(48, 1); // enabled
+    frame.number(51, 1.0 / 60.0); // stable_dt
+    frame.word(61, 1); // dragged, by
+    frame.number(58, 30.0);
+    let refusal = strakobud::frame(state, &frame.0, &mut out);
+    show("pulled", refusal, state);
+    frame.clear_input();
+    frame.word(62, 1); // drag stopped, at points per second of
+    frame.number(60, 300.0);
+    let refusal = strakobud::frame(state, &frame.0, &mut out);
+    show("let go", refusal, state);
+    frame.clear_input();
+}
+
+/// Frames of a sixtieth of a second until the list rests, at most 10,000.
+fn settle(state: &mut strakobud::StateBytes, frame: &Frame) {
+    let (mut run, mut used) = ([0; 12], [0; 4]);
+    run[..8].copy_from_slice(&(1.0 / 60.0_f64).to_le_bytes());
+    run[8..].copy_from_slice(&10_000_u32.to_le_bytes());
+    let refusal = strakobud::settle(state, &frame.0, &run, &mut used);
+    let used = u32::from_le_bytes(used);
+    show(&format!("{used} frames until it rests"), refusal, state);
+}
+
 fn main() {
     let (mut state, mut out) = ([0; 148], [0; 100]);
     strakobud::fresh(&mut state);
@@ -85,9 +113,12 @@ fn main() {
     let (mut shipped, mut table) = ([0; 8200], [0; 8200]);
     strakobud::table_t(&mut shipped);
     load("a table", &shipped, &mut table);
-    let frame = Frame::of_list(460.0);
+    let mut frame = Frame::of_list(460.0);
     let refusal = strakobud::frame_by(&mut state, &frame.0, &table, &mut out);
     show("23 rows, by the table", refusal, &state);
     shipped[0] = 1; // its first entry is no longer 2^40
     load("a damaged table", &shipped, &mut table);
+
+    flick(&mut state, &mut frame);
+    settle(&mut state, &frame);
 }

@@ -1,0 +1,9 @@
+//! The library's settling run under table T, lent by the host.
+
+fn main() {
+    let mut table = [0; 8200];
+    strakobud::table_t(&mut table);
+    bench::drive(strakobud::fresh, |state, frame, _| {
+        bench::run(|run, used| strakobud::settle_by(state, frame, &table, run, used))
+    });
+}
