@@ -3,7 +3,7 @@ use mathlib.Core.Path.{_≡_, refl, sym, ap, _∙_}
 use mathlib.Core.Bool.{Bool, true, false, cond, not, _&&_, true≢false, false≢true}
 use mathlib.Core.List.{List}
 use Prim.Native.Nat.{ℕ}
-use borrow.Author.Tests.{eqb-true}
+use borrow.Author.Tests.{eqb-true, eq-eqb}
 use lib.Dec.{eqb}
 use lib.Ieee.{Float}
 use lib.ListN.{length}
@@ -67,6 +67,9 @@ whole-by false k state a = absurd (false≢true a)
 pub whole-of : (S : State) (bytes : List ℕ) (r : ℕ) → r ≡ refusalOf bytes S → eqb r 0 ≡ true → length bytes ≡ 416
 unfolding refusalOf frameRefusal
 whole-of S bytes r e a = eqb-true (length bytes) 416 (whole-by (eqb (length bytes) 416) _ (stateRefusal S) (ap (λ (k : ℕ). eqb k 0) (sym e) ∙ a))
+
+pub whole-if-passed : (S : State) (bytes : List ℕ) → refusalOf bytes S ≡ 0 → length bytes ≡ 416
+whole-if-passed S bytes h = whole-of S bytes (refusalOf bytes S) refl (eq-eqb (refusalOf bytes S) 0 h)
 
 -- "answers and state equal document 01's steps"
 pub step-is-call : (table : Table) (S : State) (bytes : List ℕ) → stepAt table S bytes ≡ callUnder table S bytes

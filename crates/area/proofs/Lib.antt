@@ -14,6 +14,7 @@ pub mod PassedLaws
 pub mod MovedLaws
 pub mod WithoutInputLaws
 pub mod SettlingRunLaws
+pub mod AdvancedLaws
 pub mod InsideLaws
 pub mod RunLaws
 pub mod ListingLaws

@@ -17,7 +17,7 @@ use Rattle.axis.specs.Limits.{limit, exceedsLimit}
 use Rattle.area.specs.Layout as At
 use Rattle.area.specs.Layout.{layout, rows, rowAt, rowNo}
 use Rattle.area.specs.Frame.{numberNo, timeNo, hostOf, frameOf}
-use Rattle.area.specs.Checks.{isHeeded, shows3, shows4, isShown, showsNo, anyShows, frameRefusal, stateRefusal, refusalOf}
+use Rattle.area.specs.Checks.{isHeeded, isTimeOutside, shows3, shows4, isShown, showsNo, anyShows, frameRefusal, stateRefusal, refusalOf}
 use Rattle.area.specs.Begin.{tenth, dtOf}
 use Rattle.area.specs.Corners.{FrameTimesHold}
 use Rattle.area.specs.declared.state.State.{State}
@@ -25,7 +25,7 @@ use Rattle.area.proofs.TestLaws.{not-left, not-right, either, both-zero
 use Rattle.area.proofs.OrderLaws.{of-not-below}
 
 -- ---- none of checks 2 to 5 has shown
-none-shows : (k : ℕ) (s : List ℕ) (n m : ℕ) → anyShows k s n ≡ false → m < n → showsNo k s (suc m) ≡ false
+pub none-shows : (k : ℕ) (s : List ℕ) (n m : ℕ) → anyShows k s n ≡ false → m < n → showsNo k s (suc m) ≡ false
 unfolding anyShows
 none-shows k s zero m h l = absurd (omega arith)
 none-shows k s (suc n) m h l =
@@ -73,6 +73,11 @@ unfolding showsNo isHeeded isShown shows3 rowNo rowAt rows layout
 multiplier-finite bytes S h =
     let third = unshown bytes (unrefused bytes S h .0) .1 in
     (number-row _ (none-shows 3 bytes 104 21 third (omega arith)), number-row _ (none-shows 3 bytes 104 22 third (omega arith)))
+
+-- ---- the time is from 0 to 2^32
+pub passed-time : (bytes : List ℕ) → frameRefusal bytes ≡ 0 → isTimeOutside (timeNo bytes At.time) ≡ false
+unfolding showsNo isHeeded isShown shows3 rowNo rowAt rows layout
+passed-time bytes h = none-shows 3 bytes 104 52 (unshown bytes h .1) (omega arith)
 
 -- ---- stable_dt is finite and not below 0, and so dt is not below 0
 dt-finite : (bytes : List ℕ) (S : State) → refusalOf bytes S ≡ 0 → isFinite (numberNo bytes At.stableDt) ≡ true

@@ -2,24 +2,23 @@
 use Prim.Native.Nat.{ℕ, zero, suc, _≤_, _+_}
 use native.Mathlib.Numerals.{add-one}
 use native.Mathlib.Omega.{arith}
-use mathlib.Core.Path.{_≡_, refl, sym, ap, subst, _∙_}
-use mathlib.Core.Bool.{Bool, true, false, cond, _&&_}
+use mathlib.Core.Path.{_≡_, refl, sym, ap, _∙_}
+use mathlib.Core.Bool.{Bool, true, false, cond, true≢false}
 use mathlib.Core.List.{List, [], _∷_}
-use borrow.Author.Tests.{eqb-true, eqb-false}
+use borrow.Author.Tests.{eqb-true, eqb-false, eq-eqb}
 use lib.Dec.{eqb}
 use lib.Ieee.{Float}
 use lib.ListN.{length}
 use Rattle.numbers.specs.Table.{Table}
 use Rattle.area.specs.Steps.{Fed, stepAt, stepFed, answersFrom, stateFrom, isAccepted, acceptedFrom}
 use Rattle.area.specs.SettlingRun.{runRefusal, settleRefusal, advanced, endedWith, counted, settleFrom, settleUnder}
-use Rattle.area.specs.SettlingRun.{framesFrom, framesOf, lastRefusal, settledBy, Unmoved, isInside, RunHolds}
+use Rattle.area.specs.SettlingRun.{framesFrom, framesOf, lastRefusal, settledBy, isInside, FramesInside, RunHolds}
 use Rattle.area.specs.declared.state.State.{State}
 use Rattle.area.specs.declared.outcome.Answer.{Answer}
 use Rattle.area.specs.declared.«settling_run».Settled.{Settled}
-use Rattle.area.proofs.TestLaws.{and-both, fails-left, fails-right}
 use Rattle.area.proofs.CallLaws.{step-is-call, refusal-keeps}
-use Rattle.area.proofs.SettlingRunLaws.{passes-first, step-refused, step-rests, step-on}
-use Rattle.area.proofs.InsideLaws.{Inner, inside-refusal, inner-next, inner-first}
+use Rattle.area.proofs.SettlingRunLaws.{passes-first}
+use Rattle.area.proofs.InsideLaws.{Inner, isLate, inner-next, inner-first, early-first, frame-inside}
 
 -- ---- what the steps on a list of frames come to
 abbrev come : State → List Fed → Settled
@@ -47,175 +46,122 @@ come-accepted S fed rest a =
     ap (λ (t : Bool). length (cond t (fed ∷ others) others)) a ∙ sym (add-one (length others)) in
     λ i. record { refusal = last i; used = one-more i; state = stateFrom (r .state) rest }
 
--- ---- one frame of a run: refused, the last, or one that wants a repaint
-pub data Goes (table : Table) (S : State) (bytes : List ℕ) : Type 0 where
-  refused : isAccepted (stepAt table S bytes) ≡ false → Goes table S bytes
-  rests : isAccepted (stepAt table S bytes) ≡ true → stepAt table S bytes .outcome .repaint ≡ false → Goes table S bytes
-  on : isAccepted (stepAt table S bytes) ≡ true → stepAt table S bytes .outcome .repaint ≡ true → Goes table S bytes
-
-pub goes : (table : Table) (S : State) (bytes : List ℕ) → Goes table S bytes
-goes table S bytes = by (isAccepted r) refl (r .outcome .repaint) refl
-  where
-    r : Answer
-    r = stepAt table S bytes
-
-    by : (t : Bool) → isAccepted r ≡ t → (p : Bool) → r .outcome .repaint ≡ p → Goes table S bytes
-    by false a p q = refused a
-    by true a false q = rests a q
-    by true a true q = on a q
-
-no-less : (k : ℕ) → k + 1 ≡ 0 → ⊥
-no-less k h = omega arith
-
--- ---- at most n frames
+-- ---- how a run of at most n frames goes, with what it answers and the frames that it tries
 module _ (table : Table) (increment : Float) where
+  pub data Goes : ℕ → State → List ℕ → Settled → List Fed → Type 0 where
+    ends : {S : State} {bytes : List ℕ} → Goes zero S bytes (endedWith 0 S) []
+    refused : {n : ℕ} {S : State} {bytes : List ℕ} → isAccepted (stepAt table S bytes) ≡ false
+        → Goes (suc n) S bytes (endedWith (stepAt table S bytes .outcome .refusal) S) (record { table = table; bytes = bytes } ∷ [])
+    rests : {n : ℕ} {S : State} {bytes : List ℕ} → isAccepted (stepAt table S bytes) ≡ true
+        → Goes (suc n) S bytes (counted (endedWith 0 (stepAt table S bytes .state))) (record { table = table; bytes = bytes } ∷ [])
+    on : {n : ℕ} {S : State} {bytes : List ℕ} {r : Settled} {frames : List Fed} → isAccepted (stepAt table S bytes) ≡ true
+        → Goes n (stepAt table S bytes .state) (advanced increment bytes) r frames
+        → Goes (suc n) S bytes (counted r) (record { table = table; bytes = bytes } ∷ frames)
+
+  goes-by : (n : ℕ) (S : State) (bytes : List ℕ) (t p : Bool)
+      → let r = stepAt table S bytes in
+      let next = advanced increment bytes in
+      isAccepted r ≡ t → r .outcome .repaint ≡ p
+      → Goes n (r .state) next (settleFrom table increment n (r .state) next) (framesFrom table increment n (r .state) next)
+      → Goes (suc n) S bytes (settleFrom table increment (suc n) S bytes) (framesFrom table increment (suc n) S bytes)
+  unfolding settleFrom
+  goes-by n S bytes false p a q rest = rw (← step-is-call table S bytes, a) (refused a)
+  goes-by n S bytes true false a q rest = rw (← step-is-call table S bytes, a, q) (rests a)
+  goes-by n S bytes true true a q rest = rw (← step-is-call table S bytes, a, q) (on a rest)
+
+  pub goes : (n : ℕ) (S : State) (bytes : List ℕ) → Goes n S bytes (settleFrom table increment n S bytes) (framesFrom table increment n S bytes)
+  unfolding settleFrom
+  goes zero S bytes = ends
+  goes (suc n) S bytes = goes-by n S bytes _ _ refl refl (goes n _ _)
+
+  -- ---- what holds of each
   -- it is its frames' steps
-  module _ (n : ℕ) (S : State) (bytes : List ℕ) where
-    abbrev fed : Fed
-    fed = record { table = table; bytes = bytes }
+  by-steps : {n : ℕ} {S : State} {bytes : List ℕ} {r : Settled} {frames : List Fed} → Goes n S bytes r frames → r ≡ come S frames
+  by-steps ends = refl
+  by-steps (refused a) = sym (come-refused _ _ a)
+  by-steps (rests a) = sym (come-accepted _ _ [] a)
+  by-steps (on {n} {S} {bytes} {r} {frames} a run) = ap counted (by-steps run) ∙ sym (come-accepted S _ frames a)
 
-    abbrev next : State
-    next = stepAt table S bytes .state
+  at-most : {n : ℕ} {S : State} {bytes : List ℕ} {r : Settled} {frames : List Fed} → Goes n S bytes r frames → r .used ≤ n
+  at-most ends = omega arith
+  at-most (refused a) = omega arith
+  at-most (rests a) = omega arith
+  at-most (on a run) = omega (arith, at-most run)
 
-    abbrev Same : Type 0
-    Same = settleFrom table increment n next (advanced increment bytes) ≡ come next (framesFrom table increment n next (advanced increment bytes))
+  at-least : {n : ℕ} {S : State} {bytes : List ℕ} {r : Settled} {frames : List Fed} → Goes n S bytes r frames → 1 ≤ n → r .refusal ≡ 0 → 1 ≤ r .used
+  at-least ends some h = some
+  at-least (refused a) some h = absurd (eqb-false _ 0 a h)
+  at-least (rests a) some h = omega arith
+  at-least (on a run) some h = omega arith
 
-    one-frame : (isAccepted (stepAt table S bytes) && stepAt table S bytes .outcome .repaint) ≡ false → framesFrom table increment (suc n) S bytes ≡ fed ∷ []
-    one-frame h = rw h
+  -- with none used the state is the one given
+  pub none-used : {n : ℕ} {S : State} {bytes : List ℕ} {r : Settled} {frames : List Fed} → Goes n S bytes r frames → r .used ≡ 0 → r .state ≡ S
+  none-used ends h = refl
+  none-used (refused a) h = refl
+  none-used (rests a) h = absurd (omega (arith, h))
+  none-used (on a run) h = absurd (omega (arith, h))
 
-    more-frames : (isAccepted (stepAt table S bytes) && stepAt table S bytes .outcome .repaint) ≡ true
-        → framesFrom table increment (suc n) S bytes ≡ fed ∷ framesFrom table increment n next (advanced increment bytes)
-    more-frames h = rw h
+  -- inside: each frame, and the number that ends the run
+  frames-inside : {n : ℕ} {S : State} {bytes : List ℕ} {r : Settled} {frames : List Fed} → Goes n S bytes r frames → Inner S bytes → FramesInside S frames
+  frames-inside ends i = tt
+  frames-inside (refused a) i = (frame-inside table _ _ i, tt)
+  frames-inside (rests a) i = (frame-inside table _ _ i, tt)
+  frames-inside (on a run) i = (frame-inside table _ _ i, frames-inside run (inner-next table increment _ _ i a))
 
-    by-step : Same → Goes table S bytes → settleFrom table increment (suc n) S bytes ≡ come S (framesFrom table increment (suc n) S bytes)
-    by-step same (refused a) =
-        step-refused table increment n S bytes _ (step-is-call table S bytes) a
-        ∙ sym (ap (come S) (one-frame (fails-left (isAccepted (stepAt table S bytes)) _ a)) ∙ come-refused S fed a)
-    by-step same (rests a p) =
-        step-rests table increment n S bytes _ (step-is-call table S bytes) a p
-        ∙ sym (ap (come S) (one-frame (fails-right (isAccepted (stepAt table S bytes)) _ p)) ∙ come-accepted S fed [] a)
-    by-step same (on a p) =
-        step-on table increment n S bytes _ (step-is-call table S bytes) a p ∙ ap counted same
-        ∙ sym (ap (come S) (more-frames (and-both (isAccepted (stepAt table S bytes)) _ a p))
-        ∙ come-accepted S fed (framesFrom table increment n next (advanced increment bytes)) a)
+  inside : {n : ℕ} {S : State} {bytes : List ℕ} {r : Settled} {frames : List Fed} → Goes n S bytes r frames → Inner S bytes → isInside (r .refusal) ≡ true
+  inside ends i = refl
+  inside (refused a) i = frame-inside table _ _ i .refused
+  inside (rests a) i = refl
+  inside (on a run) i = inside run (inner-next table increment _ _ i a)
 
-    -- at most n, and at least one where none is refused
-    at-most-step : settleFrom table increment n next (advanced increment bytes) .used ≤ n → Goes table S bytes
-        → settleFrom table increment (suc n) S bytes .used ≤ suc n
-    at-most-step h (refused a) = rw (step-refused table increment n S bytes _ (step-is-call table S bytes) a) (omega arith)
-    at-most-step h (rests a p) = rw (step-rests table increment n S bytes _ (step-is-call table S bytes) a p) (omega arith)
-    at-most-step h (on a p) = rw (step-on table increment n S bytes _ (step-is-call table S bytes) a p) (omega (arith, h))
-
-    at-least-step : Goes table S bytes → settleFrom table increment (suc n) S bytes .refusal ≡ 0 → 1 ≤ settleFrom table increment (suc n) S bytes .used
-    at-least-step (refused a) h =
-        let e = step-refused table increment n S bytes _ (step-is-call table S bytes) a in
-        elim (eqb-false _ 0 a (sym (ap (λ (r : Settled). r .refusal) e) ∙ h)) [ ]
-    at-least-step (rests a p) h = rw (step-rests table increment n S bytes _ (step-is-call table S bytes) a p) (omega arith)
-    at-least-step (on a p) h = rw (step-on table increment n S bytes _ (step-is-call table S bytes) a p) (omega arith)
-
-    -- with none used the state is the one given
-    none-used-step : Goes table S bytes → settleFrom table increment (suc n) S bytes .used ≡ 0 → settleFrom table increment (suc n) S bytes .state ≡ S
-    none-used-step (refused a) h = ap (λ (r : Settled). r .state) (step-refused table increment n S bytes _ (step-is-call table S bytes) a)
-    none-used-step (rests a p) h =
-        let e = ap (λ (r : Settled). r .used) (step-rests table increment n S bytes _ (step-is-call table S bytes) a p) in
-        elim (no-less 0 (sym e ∙ h)) [ ]
-    none-used-step (on a p) h =
-        let e = ap (λ (r : Settled). r .used) (step-on table increment n S bytes _ (step-is-call table S bytes) a p) in
-        elim (no-less _ (sym e ∙ h)) [ ]
-
-    -- a frame inside names no move, and 3 and 8 alone can refuse it
-    inside-step : Inner S bytes → (Inner next (advanced increment bytes) → isInside (settleFrom table increment n next (advanced increment bytes) .refusal) ≡ true)
-        → Goes table S bytes → isInside (settleFrom table increment (suc n) S bytes .refusal) ≡ true
-    inside-step i rest (refused a) =
-        rw (step-refused table increment n S bytes _ (step-is-call table S bytes) a) (inside-refusal table S bytes i)
-    inside-step i rest (rests a p) = rw (step-rests table increment n S bytes _ (step-is-call table S bytes) a p) refl
-    inside-step i rest (on a p) =
-        rw (step-on table increment n S bytes _ (step-is-call table S bytes) a p) (rest (inner-next table increment S bytes i a))
-
-    unmoved-step : Inner S bytes → (Inner next (advanced increment bytes) → Unmoved (framesFrom table increment n next (advanced increment bytes)))
-        → Goes table S bytes → Unmoved (framesFrom table increment (suc n) S bytes)
-    unmoved-step i rest (refused a) = subst Unmoved (sym (one-frame (fails-left (isAccepted (stepAt table S bytes)) _ a))) (i .still .0, i .still .1, tt)
-    unmoved-step i rest (rests a p) = subst Unmoved (sym (one-frame (fails-right (isAccepted (stepAt table S bytes)) _ p))) (i .still .0, i .still .1, tt)
-    unmoved-step i rest (on a p) =
-        subst Unmoved (sym (more-frames (and-both (isAccepted (stepAt table S bytes)) _ a p)))
-        (i .still .0, i .still .1, rest (inner-next table increment S bytes i a))
-
-  by-steps-from : (n : ℕ) (S : State) (bytes : List ℕ) → settleFrom table increment n S bytes ≡ come S (framesFrom table increment n S bytes)
-  unfolding settleFrom
-  by-steps-from zero S bytes = refl
-  by-steps-from (suc n) S bytes = by-step n S bytes (by-steps-from n (next n S bytes) (advanced increment bytes)) (goes table S bytes)
-
-  pub none-used-from : (n : ℕ) (S : State) (bytes : List ℕ) → settleFrom table increment n S bytes .used ≡ 0 → settleFrom table increment n S bytes .state ≡ S
-  unfolding settleFrom
-  none-used-from zero S bytes h = refl
-  none-used-from (suc n) S bytes h = none-used-step n S bytes (goes table S bytes) h
-
-  at-most-from : (n : ℕ) (S : State) (bytes : List ℕ) → settleFrom table increment n S bytes .used ≤ n
-  unfolding settleFrom
-  at-most-from zero S bytes = omega arith
-  at-most-from (suc n) S bytes = at-most-step n S bytes (at-most-from n (next n S bytes) (advanced increment bytes)) (goes table S bytes)
-
-  inside-from : (n : ℕ) (S : State) (bytes : List ℕ) → Inner S bytes → isInside (settleFrom table increment n S bytes .refusal) ≡ true
-  unfolding settleFrom
-  inside-from zero S bytes i = refl
-  inside-from (suc n) S bytes i = inside-step n S bytes i (inside-from n (next n S bytes) (advanced increment bytes)) (goes table S bytes)
-
-  unmoved-from : (n : ℕ) (S : State) (bytes : List ℕ) → Inner S bytes → Unmoved (framesFrom table increment n S bytes)
-  unmoved-from zero S bytes i = tt
-  unmoved-from (suc n) S bytes i = unmoved-step n S bytes i (unmoved-from n (next n S bytes) (advanced increment bytes)) (goes table S bytes)
+  not-first : {n : ℕ} {S : State} {bytes : List ℕ} {r : Settled} {frames : List Fed} → Goes n S bytes r frames → Inner S bytes → isLate bytes ≡ false → r .refusal ≡ 3 → 1 ≤ r .used
+  not-first ends i early h = absurd (omega (arith, h))
+  not-first (refused a) i early h = absurd (true≢false (sym (eq-eqb _ 3 h) ∙ frame-inside table _ _ i .late ∙ early))
+  not-first (rests a) i early h = omega arith
+  not-first (on a run) i early h = omega arith
 
 -- ---- the whole run
 
 -- a limit of 0 is turned back
-no-run-of-none : (S : State) (bytes : List ℕ) (increment : Float) → eqb (settleRefusal S bytes increment 0) 0 ≡ true → ⊥
+some-frames : (S : State) (bytes : List ℕ) (increment : Float) (limit : ℕ) → settleRefusal S bytes increment limit ≡ 0 → 1 ≤ limit
 unfolding runRefusal
-no-run-of-none S bytes increment h =
-    let nine : _≡_ {A = ℕ} 9 0 = passes-first S bytes increment 0 (eqb-true (settleRefusal S bytes increment 0) 0 h) .1 in
-    omega (arith, nine)
+some-frames S bytes increment zero h =
+    let nine : _≡_ {A = ℕ} 9 0 = passes-first S bytes increment 0 h .1 in
+    absurd (omega (arith, nine))
+some-frames S bytes increment (suc n) h = omega arith
 
-module _ (table : Table) (S : State) (bytes : List ℕ) (increment : Float) where
-  abbrev refusal : ℕ → ℕ
-  refusal limit = settleRefusal S bytes increment limit
+module _ (table : Table) (S : State) (bytes : List ℕ) (increment : Float) (limit : ℕ) where
+  abbrev refusal : ℕ
+  refusal = settleRefusal S bytes increment limit
 
-  ran : (limit : ℕ) → eqb (refusal limit) 0 ≡ true → settleUnder table S bytes increment limit ≡ settleFrom table increment limit S bytes
-  unfolding settleUnder
-  ran limit h = rw h
-
-  turned-back : (limit : ℕ) → eqb (refusal limit) 0 ≡ false → settleUnder table S bytes increment limit ≡ endedWith (refusal limit) S
-  unfolding settleUnder
-  turned-back limit h = rw h
-
-  at-least-ran : (limit : ℕ) → eqb (refusal limit) 0 ≡ true → settleFrom table increment limit S bytes .refusal ≡ 0
-      → 1 ≤ settleFrom table increment limit S bytes .used
-  at-least-ran zero h = absurd (no-run-of-none S bytes increment h)
-  at-least-ran (suc n) h = at-least-step table increment n S bytes (goes table S bytes)
-
-  first : (limit : ℕ) → eqb (refusal limit) 0 ≡ true → Inner S bytes
-  first limit h = inner-first S bytes increment limit (eqb-true (refusal limit) 0 h)
-
-  holds-by : (limit : ℕ) (t : Bool) → eqb (refusal limit) 0 ≡ t → RunHolds table S bytes increment limit (settleUnder table S bytes increment limit)
-  unfolding settledBy framesOf
-  holds-by limit true h =
-      let e = ran limit h in
-      subst (RunHolds table S bytes increment limit) (sym e)
+  holds-by : (t : Bool) → eqb refusal 0 ≡ t → RunHolds table S bytes increment limit (settleUnder table S bytes increment limit)
+  unfolding settleUnder settledBy framesOf
+  holds-by true h =
+      let none = eqb-true refusal 0 h in
+      let run = goes table increment limit S bytes in
+      let first = inner-first S bytes increment limit none in
+      rw h
       (record {
-        at-most = at-most-from table increment limit S bytes;
-        at-least = at-least-ran limit h;
-        up-front = λ no. absurd (no (eqb-true (refusal limit) 0 h));
-        inside = λ _. inside-from table increment limit S bytes (first limit h);
-        unmoved = rw h (unmoved-from table increment limit S bytes (first limit h));
-        by-steps = rw h (by-steps-from table increment limit S bytes);
+        at-most = at-most table increment run;
+        at-least = at-least table increment run (some-frames S bytes increment limit none);
+        up-front = λ no. absurd (no none);
+        inside = λ _. inside table increment run first;
+        not-first = λ _. not-first table increment run first (early-first S bytes increment limit none);
+        frames-inside = rw h (frames-inside table increment run first);
+        by-steps = rw h (by-steps table increment run);
       })
-  holds-by limit false h =
-      subst (RunHolds table S bytes increment limit) (sym (turned-back limit h))
+  holds-by false h =
+      let some = eqb-false refusal 0 h in
+      rw h
       (record {
         at-most = omega arith;
-        at-least = λ none. absurd (eqb-false (refusal limit) 0 h none);
+        at-least = λ none. absurd (some none);
         up-front = λ no. refl;
-        inside = λ none. absurd (eqb-false (refusal limit) 0 h none);
-        unmoved = rw h tt;
+        inside = λ none. absurd (some none);
+        not-first = λ none. absurd (some none);
+        frames-inside = rw h tt;
         by-steps = rw h;
       })
 
-  pub run-holds : (limit : ℕ) → RunHolds table S bytes increment limit (settleUnder table S bytes increment limit)
-  run-holds limit = holds-by limit _ refl
+  pub run-holds : RunHolds table S bytes increment limit (settleUnder table S bytes increment limit)
+  run-holds = holds-by _ refl

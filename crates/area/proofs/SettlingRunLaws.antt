@@ -5,11 +5,10 @@ use native.Mathlib.Omega.{arith}
 use mathlib.Core.Path.{_≡_, refl, sym, ap, subst, _∙_}
 use mathlib.Core.Bool.{true, false}
 use mathlib.Core.List.{List}
-use borrow.Author.Tests.{eqb-true, eq-eqb}
+use borrow.Author.Tests.{eqb-true}
 use lib.Dec.{eqb}
 use lib.Ieee.{Float}
-use lib.ListN.{length, take, drop, length-append, length-take, length-drop}
-use Rattle.words.specs.Words.{bytesOf, putAt}
+use lib.ListN.{length}
 use Rattle.numbers.specs.Table.{Table}
 use Rattle.area.specs.Checks.{refusalOf}
 use Rattle.area.specs.Call.{callUnder}
@@ -19,7 +18,7 @@ use Rattle.area.specs.declared.state.State.{State}
 use Rattle.area.specs.declared.«settling_run».Settled.{Settled}
 use Rattle.area.specs.declared.outcome.Answer.{Answer}
 use Rattle.area.proofs.TestLaws.{both-zero}
-use Rattle.area.proofs.CallLaws.{whole-of}
+use Rattle.area.proofs.CallLaws.{whole-if-passed}
 
 -- ---- a run that is not turned back up front is on a frame and a state that pass 1 to 6, and passes 9
 pub passes-first : (state : State) (bytes : List ℕ) (increment : Float) (limit : ℕ) → settleRefusal state bytes increment limit ≡ 0
@@ -31,13 +30,7 @@ pub whole-of-run : (state : State) (bytes : List ℕ) (increment : Float) (limit
     → length bytes ≡ 416
 whole-of-run state bytes increment limit r e a =
     let passes = passes-first state bytes increment limit (sym e ∙ eqb-true r 0 a) in
-    whole-of state bytes (refusalOf bytes state) refl (eq-eqb (refusalOf bytes state) 0 (passes .0))
-
--- ---- a frame whose time has moved on is whole
-pub advanced-whole : (increment : Float) (bytes : List ℕ) → length bytes ≡ 416 → length (advanced increment bytes) ≡ 416
-unfolding advanced putAt bytesOf
-advanced-whole increment bytes e =
-    length-append (take 204 bytes) _ ∙ omega (arith, e, length-take 204 bytes, length-drop 204 bytes, length-drop 8 (drop 204 bytes))
+    whole-if-passed state bytes (passes .0)
 
 -- ---- one frame
 module _ (table : Table) (increment : Float) (n : ℕ) (state : State) (frame : List ℕ) (r : Answer) (is : r ≡ callUnder table state frame) where

@@ -11,9 +11,9 @@ use Rattle.words.specs.Words.{putAt}
 use Rattle.numbers.specs.Table.{Table}
 use Rattle.area.specs.Layout as At
 use Rattle.area.specs.Frame.{timeNo, timeWords}
-use Rattle.area.specs.Checks.{refusalOf}
+use Rattle.area.specs.Checks.{isTimeOutside, refusalOf}
 use Rattle.area.specs.Call.{callUnder}
-use Rattle.area.specs.Steps.{Fed, stepAt, answersFrom, stateFrom, isAccepted, acceptedFrom}
+use Rattle.area.specs.Steps.{Fed, stepAt, stepFed, answersFrom, stateFrom, isAccepted, acceptedFrom}
 use Rattle.area.specs.Moved.{isMovedByWords}
 use Rattle.area.specs.declared.state.State.{State}
 use Rattle.area.specs.declared.outcome.Answer.{Answer}
@@ -113,25 +113,33 @@ settledBy table S bytes increment limit =
       state = stateFrom S frames;
     }
 
--- no word of them names a move
-abbrev pub Unmoved : List Fed → Type 0
-Unmoved [] = Unit {0}
-Unmoved (fed ∷ frames) = (isMovedByWords (fed .bytes) 0 ≡ false) × (isMovedByWords (fed .bytes) 1 ≡ false) × Unmoved frames
+-- ---- what holds of every run
 
 -- the number that a frame inside can be refused with, or 0
 abbrev pub isInside : ℕ → Bool
 isInside refusal = eqb refusal 0 || eqb refusal 3 || eqb refusal 8
 
--- what holds of every run
+-- of a frame inside, on the state S that those before it reached
+pub record FrameInside (S : State) (fed : Fed) : Type 0 where
+  -- no word of it names a move, as in the frame given
+  pub unmoved : (isMovedByWords (fed .bytes) 0 ≡ false) × (isMovedByWords (fed .bytes) 1 ≡ false)
+  pub refused : isInside (stepFed S fed .outcome .refusal) ≡ true
+  -- with 3 exactly where its time is not from 0 to 2^32
+  pub late : eqb (stepFed S fed .outcome .refusal) 3 ≡ isTimeOutside (timeNo (fed .bytes) At.time)
+
+abbrev pub FramesInside : State → List Fed → Type 0
+FramesInside S [] = Unit {0}
+FramesInside S (fed ∷ frames) = FrameInside S fed × FramesInside (stepFed S fed .state) frames
+
 pub record RunHolds (table : Table) (S : State) (bytes : List ℕ) (increment : Float) (limit : ℕ) (r : Settled) : Type 0 where
   -- "counted frames in the settling run's result, bounded by the given limit"; and one at least where none is refused
   pub at-most : r .used ≤ limit
   pub at-least : r .refusal ≡ 0 → 1 ≤ r .used
   -- a refusal up front leaves everything as given
   pub up-front : (settleRefusal S bytes increment limit ≡ 0 → ⊥) → r ≡ endedWith (settleRefusal S bytes increment limit) S
-  -- inside, 3 (the time has come above 2^32) and 8 alone can end it by a refusal
+  -- inside, 3 and 8 alone can end it by a refusal, and 3 not at its first frame
   pub inside : settleRefusal S bytes increment limit ≡ 0 → isInside (r .refusal) ≡ true
-  -- its frames name no move, as the one given does not
-  pub unmoved : Unmoved (framesOf table S bytes increment limit)
+  pub not-first : settleRefusal S bytes increment limit ≡ 0 → r .refusal ≡ 3 → 1 ≤ r .used
+  pub frames-inside : FramesInside S (framesOf table S bytes increment limit)
   -- it is its frames' steps; so a refusal inside hands back its number with the frames and the state before it
   pub by-steps : r ≡ settledBy table S bytes increment limit

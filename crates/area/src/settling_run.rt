@@ -38,11 +38,7 @@ pub fn settle_by(state: State, bytes: &[u8], increment: f64, limit: u32, table: 
     if passed {
         return settle_frames(state, bytes, increment, limit, table);
     }
-    Settled {
-        refusal,
-        used: 0,
-        state,
-    }
+    ended(refusal, 0, state)
 }
 
 // The lowest of 1 to 6 that applies to the frame and the state as given, then 9, or 0.
@@ -90,25 +86,24 @@ pub fn settle_frames(
         let outcome = answer.outcome;
         let accepted = outcome.refusal == 0;
         if !accepted {
-            return Settled {
-                refusal: outcome.refusal,
-                used,
-                state,
-            };
+            return ended(outcome.refusal, used, state);
         }
         state = answer.state;
         used += 1;
         if !outcome.repaint {
-            return Settled {
-                refusal: 0,
-                used,
-                state,
-            };
+            return ended(0, used, state);
         }
         advance(&mut frame, increment);
     }
+    ended(0, used, state)
+}
+
+// The answer of a run that ends here.
+fn ended(refusal: u32, used: u32, state: State) -> Settled
+    ensures { λ r. ⌜ r ≡ record { refusal = refusal; used = used; state = state } ⌝ }
+{
     Settled {
-        refusal: 0,
+        refusal,
         used,
         state,
     }

@@ -9,7 +9,6 @@ use lib.Dec.{eqb, ltb, lit<}
 use lib.ListN.{getD}
 use lib.Ieee.{Float, binary32, binary64, ofBits, toBits}
 use lib.Ieee.Bits.{ofBits-toBits, toBits-lt}
-use Rattle.words.specs.Words.{bytesOf}
 use Rattle.area.specs.Frame.{wordNo, numberNo, flagNo, timeNo, pairNo, flagsNo, pos2No, rectNo, maybeRectNo}
 use Rattle.area.specs.Pair.{flag}
 use Rattle.area.specs.State.{noTarget, noPress}
@@ -19,7 +18,7 @@ use Rattle.area.specs.declared.state.OffsetTarget.{OffsetTarget}
 use Rattle.area.specs.declared.state.MaybePress.{MaybePress}
 use Rattle.area.specs.declared.state.StartOffset.{StartOffset}
 use Rattle.area.specs.declared.state.MaybeRect.{MaybeRect}
-use Rattle.host.specs.Record.{numberWord, flagWord, numberWords, flagWords, targetWords, pressWords, maybeRectWords, stateWords}
+use Rattle.host.specs.Record.{numberWord, flagWord, numberWords, flagWords, targetWords, pressWords, maybeRectWords, stateWords, recordOf}
 use Rattle.host.specs.Record.{maybeTargetNo, offsetTargetNo, maybePressNo, startOffsetNo, stateOf, isNoFlag, isDamaged}
 use Rattle.host.specs.Record.{Is32, Is64, ArePair, AreFlags, IsTarget, AreTargets, IsPress, ArePresses, IsRect, IsHeld}
 use Rattle.host.proofs.RecordLaws.{stateParts, state-right}
@@ -138,14 +137,14 @@ presses-back s n m (p ∷ q ∷ []) held first second = rw (press-back s n (p .p
 presses-back s n m (p ∷ q ∷ r ∷ v) held first second = absurd held
 
 -- ---- the state
-abbrev part : (s : State) (i : ℕ) → Reads (bytesOf (stateWords s)) (start (stateParts s) i + 1) (partAt (stateParts s) i)
+abbrev part : (s : State) (i : ℕ) → Reads (recordOf s) (start (stateParts s) i + 1) (partAt (stateParts s) i)
 unfolding stateWords
 part s i = reads (stateParts s) i (state-right s)
 
-pub written-is-read : (s : State) → IsHeld s → stateOf (bytesOf (stateWords s)) ≡ s
+pub written-is-read : (s : State) → IsHeld s → stateOf (recordOf s) ≡ s
 unfolding stateOf
 written-is-read s held =
-    let b = bytesOf (stateWords s) in
+    let b = recordOf s in
     rw (
       pair-back b 1 (s .offset) (held .offset) (part s 0),
       pair-back b 3 (s .«max_offset») (held .«max_offset») (part s 1),
@@ -183,10 +182,10 @@ fine-rect : (s : List ℕ) (n : ℕ) (r : MaybeRect) → Reads s n (maybeRectWor
 fine-rect s n MaybeRect.Nothing read = fine s n false (read 0 n (omega arith) (lit< tt) (lit< tt))
 fine-rect s n (MaybeRect.Some r) read = fine s n true (read 0 n (omega arith) (lit< tt) (lit< tt))
 
-pub written-is-undamaged : (s : State) → isDamaged (bytesOf (stateWords s)) ≡ false
+pub written-is-undamaged : (s : State) → isDamaged (recordOf s) ≡ false
 unfolding isDamaged
 written-is-undamaged s =
-    let b = bytesOf (stateWords s) in
+    let b = recordOf s in
     rw (
       fine-target b 5 (getD (s .«offset_target») 0 noTarget .target) (part s 2),
       fine-target b 11 (getD (s .«offset_target») 1 noTarget .target) (part s 3),

@@ -39,7 +39,6 @@ use denote.Triple.Statement.{Contract}
 use denote.Triple.End.{lastsOf}
 use denote.Triple.Spec.{tripleOf, Back}
 use denote.Triple.Adequate.{adequate}
-use Rattle.words.specs.Words.{bytesOf}
 use Rattle.numbers.specs.Table.{tableOf}
 use Rattle.area.specs.Call.{callUnder}
 use Rattle.area.specs.declared.state.State.{State}
@@ -50,7 +49,7 @@ use Rattle.area.proofs.outcome.Answer as answer
 use Rattle.area.proofs.frame_by as call
 use Rattle.area.proofs.frame_by.Met.{met}
 use Rattle.area.proofs.frame_by.Symbol.{routine}
-use Rattle.host.specs.Record.{stateWords, stateOf, IsHeld}
+use Rattle.host.specs.Record.{recordOf, stateOf, IsHeld}
 use Rattle.host.specs.Lists.{AreBytes, AreTable}
 use Rattle.host.proofs.BackLaws.{written-is-read}
 use Rattle.host.proofs.TypedLaws.{typed-is-held, held-is-typed}
@@ -195,23 +194,18 @@ module _ {M : Type 1} (𝓤 : URA M) (H : Heap 𝓤) (𝓜 : Model 𝓤 H) (𝓖
       (c .1, subst (λ (a : Answer). Is answer.the-row a (c .1 ∷ [])) e typed-r)))))))
 
 -- ---- at the closed model, from the memory that a run begins with
-
--- the state that a frame reaches from one that the code can hold is one that the code can hold
-pub call-is-held : (s : State) → IsHeld s → (frame table : List ℕ) → AreBytes frame → AreBytes table → Room u8 (length frame) → Room u8 (length table)
-    → ∥ IsHeld (callUnder (tableOf table) s frame .state) ∥₁
-call-is-held s held frame table are lent room table-room =
-    ∥∥₁-map (said Closed.𝓤 Closed.H Closed.model ghost₀ (real Closed.𝓤 Closed.H Closed.model) s frame table (held-is-typed s held) room table-room
-    (startMem frame table) (start-satisfies Closed.𝓤 Closed.H Closed.model frame table (all-fit frame are) (all-fit table lent)))
-    (λ a. typed-is-held (callUnder (tableOf table) s frame .state) _ (a .1 .1 .1 .0))
-
-pub small : (n : ℕ) → n ≤ 8200 → Room u8 n
+small : (n : ℕ) → n ≤ 8200 → Room u8 n
 small n h = (omega (arith, h), omega (arith, h))
 
--- so it is read back as it is written
-pub call-is-read-back : (s : State) → IsHeld s → (frame table : List ℕ) → AreBytes frame → AreTable table → length frame ≡ 416
-    → stateOf (bytesOf (stateWords (callUnder (tableOf table) s frame .state))) ≡ callUnder (tableOf table) s frame .state
-call-is-read-back s held frame table are lent count =
-    let reached = callUnder (tableOf table) s frame .state in
-    ∥∥₁-elim (call-is-held s held frame table are (lent .1) (small (length frame) (omega (arith, count))) (small (length table) (lent .0)))
-    (coded-set (state.the-row .coded) (stateOf (bytesOf (stateWords reached))) reached)
-    (written-is-read reached)
+-- the state that a frame reaches from one that the code can hold is one that the code can hold
+pub call-is-held : (s : State) → IsHeld s → (frame table : List ℕ) → AreBytes frame → AreTable table → length frame ≡ 416
+    → ∥ IsHeld (callUnder (tableOf table) s frame .state) ∥₁
+call-is-held s held frame table are lent count =
+    ∥∥₁-map (said Closed.𝓤 Closed.H Closed.model ghost₀ (real Closed.𝓤 Closed.H Closed.model) s frame table (held-is-typed s held)
+    (small (length frame) (omega (arith, count))) (small (length table) (lent .0))
+    (startMem frame table) (start-satisfies Closed.𝓤 Closed.H Closed.model frame table (all-fit frame are) (all-fit table (lent .1))))
+    (λ a. typed-is-held (callUnder (tableOf table) s frame .state) _ (a .1 .1 .1 .0))
+
+-- and such a state is read back as it is written
+pub held-is-read-back : (s : State) → ∥ IsHeld s ∥₁ → stateOf (recordOf s) ≡ s
+held-is-read-back s held = ∥∥₁-elim held (coded-set (state.the-row .coded) (stateOf (recordOf s)) s) (written-is-read s)

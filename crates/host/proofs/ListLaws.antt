@@ -6,7 +6,7 @@ use mathlib.Core.Bool.{Bool, true, false, cond, _&&_}
 use mathlib.Core.List.{List, [], _∷_, _++_, map}
 use Prim.Native.Nat.{ℕ, zero, suc, _≤_}
 use native.Mathlib.Omega.{arith}
-use borrow.Author.Tests.{eq-eqb, ltb-false}
+use borrow.Author.Tests.{ltb-false}
 use lib.Dec.{eqb, ltb}
 use lib.Ieee.{Float, binary32}
 use lib.Ieee.Bits.{ofBits-fits}
@@ -14,7 +14,6 @@ use Rattle.words.specs.Words.{bytesOf}
 use Rattle.numbers.specs.F32 as F32
 use Rattle.numbers.specs.Table.{Table, tableOf}
 use Rattle.area.specs.State.{default}
-use Rattle.area.specs.Checks.{refusalOf}
 use Rattle.area.specs.Steps.{Fed, stepAt, stepFed, stateFrom, isAccepted, acceptedFrom}
 use Rattle.area.specs.SettlingRun.{settleRefusal, advanced, endedWith, settleFrom, framesFrom, framesOf, settledBy}
 use Rattle.area.specs.SettlingRun as area
@@ -24,20 +23,20 @@ use Rattle.area.specs.declared.state.State.{State}
 use Rattle.area.specs.declared.outcome.Answer.{Answer}
 use Rattle.area.specs.declared.«settling_run».Settled.{Settled}
 use Rattle.area.proofs.TestLaws.{either}
-use Rattle.area.proofs.CallLaws.{step-is-call, refusal-keeps, whole-of, accepted}
+use Rattle.area.proofs.CallLaws.{step-is-call, refusal-keeps, whole-if-passed, accepted}
 use Rattle.area.proofs.SettlingRunLaws.{whole-of-run}
-use Rattle.area.proofs.RunLaws.{run-holds, none-used-from}
+use Rattle.area.proofs.RunLaws.{goes, none-used, run-holds}
 use Rattle.area.proofs.ListLaws.{state-after}
 use Rattle.host.specs.Record.{recordOf, outWords, stateOf, isDamaged, ArePair, IsHeld}
 use Rattle.host.specs.Calls.{FrameLeft, leftBy, frameUnder, freshBytes}
-use Rattle.host.specs.SettlingRun.{RunLeft, incrementOf, limitOf, upFrontOn, ranOn, ranBy, settleUnder}
+use Rattle.host.specs.SettlingRun.{RunLeft, incrementOf, limitOf, upFrontOn, ranUnder, ranBy, settleUnder}
 use Rattle.host.specs.Lists.{FrameOnSays, SettleOnSays, AreBytes, AreTable, RecordCall, onFrame, onRun, RecordTold, ofFrame, ofRun}
-use Rattle.host.specs.Lists.{callOf, AreCall, AreCalls, RecordRun, ends, framed, settled, AnswersAlong, no-more, frame-too, run-too}
+use Rattle.host.specs.Lists.{callOf, AreCall, AreCalls, AreFrames, RecordRun, ends, framed, settled, AnswersAlong, no-more, frame-too, run-too}
 use Rattle.host.specs.Lists.{feedOn, RecordWhole, AllRecordLists}
 use Rattle.host.proofs.BackLaws.{written-is-read, written-is-undamaged}
 use Rattle.host.proofs.HeldLaws.{read-is-held}
-use Rattle.host.proofs.CalledLaws.{call-is-read-back}
-use Rattle.host.proofs.RunHeldLaws.{words-are, advanced-are, run-is-read-back}
+use Rattle.host.proofs.CalledLaws.{call-is-held, held-is-read-back}
+use Rattle.host.proofs.RunHeldLaws.{words-are, advanced-are, run-is-held}
 
 -- ---- a record: the bytes that are written of the state that they stand for
 abbrev IsRecord : List ℕ → Type 0
@@ -55,9 +54,9 @@ accepted-is-read-back : (s frame table : List ℕ) → AreBytes frame → AreTab
     → stateOf (recordOf (stepAt (tableOf table) (stateOf s) frame .state)) ≡ stepAt (tableOf table) (stateOf s) frame .state
 accepted-is-read-back s frame table are lent a =
     let S = stateOf s in
-    let count = whole-of S frame (refusalOf frame S) refl (eq-eqb (refusalOf frame S) 0 (accepted (tableOf table) S frame a .unrefused)) in
+    let count = whole-if-passed S frame (accepted (tableOf table) S frame a .unrefused) in
     subst (λ (t : Answer). stateOf (recordOf (t .state)) ≡ t .state) (sym (step-is-call (tableOf table) S frame))
-    (call-is-read-back S (read-is-held s) frame table are lent count)
+    (held-is-read-back _ (call-is-held S (read-is-held s) frame table are lent count))
 
 -- with whether the record is written
 written-stands : (test : Bool) (S : State) (s : List ℕ) → (test ≡ true → stateOf (recordOf S) ≡ S) → (test ≡ false → S ≡ stateOf s) → IsRecord s
@@ -112,7 +111,7 @@ module _ (s frame table run used : List ℕ) where
 
   -- a run on a record is a run on its state
   run-is-run : IsRecord s → settleUnder (tableOf table) s frame run used ≡ ranBy upFront ran s used
-  unfolding settleUnder upFrontOn ranOn
+  unfolding settleUnder upFrontOn ranUnder
   run-is-run is = rw (ap isDamaged is ∙ written-is-undamaged S)
 
   told-is : told ≡ area.settleUnder (tableOf table) S frame (incrementOf run) (limitOf run)
@@ -129,10 +128,11 @@ module _ (s frame table run used : List ℕ) where
   ran-stands : IsRecord s → AreBytes frame → AreTable table → (t : Bool) → eqb upFront 0 ≡ t → OneRun (ranBy upFront ran s used)
   ran-stands is are lent true h =
       let whole = whole-of-run S frame (incrementOf run) (limitOf run) upFront refl h in
-      let read = run-is-read-back table lent (incrementOf run) (limitOf run) S (read-is-held s) frame are whole in
+      let course = goes (tableOf table) (incrementOf run) (limitOf run) S frame in
+      let held = run-is-held table lent (incrementOf run) course (read-is-held s) are whole in
       let left =
-      written-stands (ltb 0 (ran .used)) (ran .state) s (λ _. read)
-      (λ none. none-used-from (tableOf table) (incrementOf run) (limitOf run) S frame (le-zero (ltb-false 0 (ran .used) none))) is in
+      written-stands (ltb 0 (ran .used)) (ran .state) s (λ _. held-is-read-back _ held)
+      (λ none. none-used (tableOf table) (incrementOf run) course (le-zero (ltb-false 0 (ran .used) none))) is in
       record {
         answers = ap (λ (z : Settled). ranBy upFront z s used) (sym (told-is-ran h));
         stands = rw h (left .0 ∙ ap (λ (z : Settled). z .state) (sym (told-is-ran h)));
@@ -244,16 +244,18 @@ calls-are (settled are lent says run) = ((are, lent), calls-are run)
 record CallsOn (frames : List Fed) : Type 0 where
   pub calls : List RecordCall
   pub are : AreCalls calls
+  pub are-frames : AreFrames calls
   pub feeds : (S : State) → feedFrom S (map callOf calls) ≡ frames
 
 calls-on : (frames : List Fed) → AllLent frames → CallsOn frames
-calls-on [] all = record { calls = []; are = tt; feeds = λ S. refl }
+calls-on [] all = record { calls = []; are = tt; are-frames = tt; feeds = λ S. refl }
 calls-on (fed ∷ frames) all =
     let rest = calls-on frames (all .1) in
     let one = all .0 in
     record {
       calls = onFrame (fed .bytes) (one .table) [] ∷ rest .calls;
       are = ((one .are, one .lent), rest .are);
+      are-frames = rest .are-frames;
       feeds = λ S i. record { table = one .same i; bytes = fed .bytes } ∷ rest .feeds (stepAt (tableOf (one .table)) S (fed .bytes) .state) i;
     }
 
@@ -274,7 +276,7 @@ whole-from s is all calls answers t run =
       same-answers = goes .answers-same;
       same-state = goes .state-same;
       same-record = recorded;
-      accepted-alone = (alone .calls, ran .0, subst (RecordRun s (alone .calls) (ran .0)) ends-there (ran .2), alone .feeds S);
+      accepted-alone = (alone .calls, ran .0, subst (RecordRun s (alone .calls) (ran .0)) ends-there (ran .2), alone .are-frames, alone .feeds S);
       distances = steps .distances;
     }
 

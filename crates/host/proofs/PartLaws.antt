@@ -1,21 +1,17 @@
 -- Words put one part after another fill the bytes with the words of all the parts.
 use mathlib.Core.Path.{_≡_, refl, sym, ap, _∙_}
 use mathlib.Core.List.{List, [], _∷_, _++_, append-nil, append-assoc}
-use Prim.Native.Nat.{ℕ, _+_, _*_, _≤_}
+use Prim.Native.Nat.{ℕ, _+_, _*_}
 use native.Mathlib.Omega.{arith}
 use lib.ListN.{length, drop, length-append, drop-of-length-le}
 use lib.Seq.{take-at, drop-at, drop-drop}
 use Rattle.words.specs.Words.{bytesOf, putAt}
+use Rattle.words.proofs.KeptLaws.{length-bytes}
 
 bytes-append : (v w : List ℕ) → bytesOf (v ++ w) ≡ bytesOf v ++ bytesOf w
 unfolding bytesOf
 bytes-append [] w = refl
 bytes-append (x ∷ v) w = ap (λ (r : List ℕ). bytesOf (x ∷ []) ++ r) (bytes-append v w)
-
-pub length-bytes : (w : List ℕ) → length (bytesOf w) ≡ 4 * length w
-unfolding bytesOf
-length-bytes [] = refl
-length-bytes (x ∷ w) = omega (arith, length-bytes w)
 
 -- ---- one part
 put-after : (at : ℕ) (w p r : List ℕ) → length p ≡ 4 * at → putAt at w (p ++ r) ≡ p ++ (bytesOf w ++ drop (4 * length w) r)

@@ -11,7 +11,7 @@ use Rattle.area.specs.declared.state.MaybeTarget.{MaybeTarget}
 use Rattle.area.specs.declared.state.MaybePress.{MaybePress}
 use Rattle.area.specs.declared.state.MaybeRect.{MaybeRect}
 use Rattle.area.specs.declared.outcome.Outcome.{Outcome}
-use Rattle.host.specs.Record.{flagWord, numberWords, flagWords, targetWords, pressWords, rectWords, maybeRectWords, stateWords, outWords}
+use Rattle.host.specs.Record.{flagWord, numberWords, flagWords, targetWords, pressWords, rectWords, maybeRectWords, stateWords, recordOf, outWords}
 use Rattle.host.proofs.PartLaws.{Part, Right, wordsOf, put-parts, Puts, puts}
 
 pub target-length : (t : MaybeTarget) → length (targetWords t) ≡ 6
@@ -110,7 +110,7 @@ out-right o = (
   ),
 )
 
-pub state-put : (s : State) {b t : List ℕ} → length b ≡ 148 → Puts 0 (stateParts s) b t → t ≡ bytesOf (stateWords s)
+pub state-put : (s : State) {b t : List ℕ} → length b ≡ 148 → Puts 0 (stateParts s) b t → t ≡ recordOf s
 unfolding stateWords
 state-put s {b} whole calls = puts calls ∙ put-parts (stateParts s) b (state-right s) whole
 

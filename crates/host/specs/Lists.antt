@@ -58,6 +58,12 @@ abbrev pub AreCalls : List RecordCall → Type 0
 AreCalls [] = Unit {0}
 AreCalls (call ∷ calls) = AreCall call × AreCalls calls
 
+-- frame calls alone, and no runs
+abbrev pub AreFrames : List RecordCall → Type 0
+AreFrames [] = Unit {0}
+AreFrames (onFrame frame table out ∷ calls) = AreFrames calls
+AreFrames (onRun frame table run used ∷ calls) = ⊥
+
 -- RecordRun s calls answers t: on the record s the calls gave these answers, and t is the record after them. Each call keeps its own promise
 -- and is given the record that the call before it left.
 pub data RecordRun : List ℕ → List RecordCall → List RecordTold → List ℕ → Type 0 where
@@ -72,7 +78,7 @@ pub data RecordRun : List ℕ → List RecordCall → List RecordTold → List �
 -- ---- along the answers
 
 -- each call's answer is the steps': its refusal; and the record of its state and the words of what it puts out or of the frames used, or what
--- both buffers held. And the record left stands for the steps' state.
+-- the buffers held (`leftBy`, `ranBy`). And the record left stands for the steps' state.
 pub data AnswersAlong : List ℕ → List RecordCall → List Told → List RecordTold → Type 0 where
   no-more : {s : List ℕ} → AnswersAlong s [] [] []
   frame-too : {s frame table out : List ℕ} {a : Answer} {r : FrameLeft} {calls : List RecordCall} {steps : List Told} {answers : List RecordTold}
@@ -95,13 +101,13 @@ pub record RecordWhole (s : List ℕ) (calls : List RecordCall) (answers : List 
   pub same-answers : AnswersAlong s calls (toldFrom (stateOf s) (map callOf calls)) answers
   pub same-state : stateOf t ≡ stateFrom (stateOf s) (feedOn s calls)
   pub same-record : t ≡ recordOf (stateFrom (stateOf s) (feedOn s calls))
-  -- "the accepted frames alone reach the same state": calls on these frames alone have a run that ends on the same record
-  pub accepted-alone : (alone : List RecordCall) × (others : List RecordTold) × RecordRun s alone others t
+  -- "the accepted frames alone reach the same state": frame calls on these frames, and no others, end on the same record
+  pub accepted-alone : (alone : List RecordCall) × (others : List RecordTold) × RecordRun s alone others t × AreFrames alone
       × (feedOn s alone ≡ acceptedFrom (stateOf s) (feedOn s calls))
   -- the range and the end, by area's own law, along the steps, for whose states after each call the records left stand
   pub distances : DistancesAlong (stateOf s) (feedOn s calls)
 
--- of every list of calls that begins on the record s, in any mix of tables; each list of frames and tables in bytes has such a run, and the
+-- of every list of calls that begins on the record s, in any mix of tables; each list of calls on frames and tables in bytes goes so, and the
 -- document's own frame is one in bytes and meets what the laws ask
 pub record AllRecordLists (s : List ℕ) : Type 0 where
   pub whole : (calls : List RecordCall) (answers : List RecordTold) (t : List ℕ) → RecordRun s calls answers t → RecordWhole s calls answers t

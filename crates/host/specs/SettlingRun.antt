@@ -43,12 +43,12 @@ upFrontOn state frame run =
     cond (isDamaged state) (damagedRefusal frame) (settleRefusal (stateOf state) frame (incrementOf run) (limitOf run))
 
 -- the frames of a run that is not turned back there
-unfoldable pub ranOn : Table → State → List ℕ → List ℕ → Settled
-ranOn table state frame run = settleFrom table (incrementOf run) (limitOf run) state frame
+unfoldable pub ranUnder : Table → State → List ℕ → List ℕ → Settled
+ranUnder table state frame run = settleFrom table (incrementOf run) (limitOf run) state frame
 
 -- under a table
 unfoldable pub settleUnder : Table → List ℕ → List ℕ → List ℕ → List ℕ → RunLeft
-settleUnder table state frame run used = ranBy (upFrontOn state frame run) (ranOn table (stateOf state) frame run) state used
+settleUnder table state frame run used = ranBy (upFrontOn state frame run) (ranUnder table (stateOf state) frame run) state used
 
 -- strakobud_settle: T serves where no table is given
 abbrev pub settleOn : List ℕ → List ℕ → List ℕ → List ℕ → RunLeft

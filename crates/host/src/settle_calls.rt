@@ -55,7 +55,7 @@ fn settle_under(
     let refusal = up_front(state, frame, run);
     let passed = refusal == 0;
     if passed {
-        let r = ran_on(state_of(state), frame, table, run);
+        let r = ran_under(state_of(state), frame, table, run);
         words::put(used, 0, &[r.used]);
         if 0 < r.used {
             put_state(state, r.state);
@@ -76,9 +76,9 @@ fn up_front(state: &[u8; 148], frame: &[u8], run: &[u8; 12]) -> u32
 }
 
 // The frames of a run that nothing turned back.
-fn ran_on(state: State, frame: &[u8], table: &[u8], run: &[u8; 12]) -> Settled
+fn ran_under(state: State, frame: &[u8], table: &[u8], run: &[u8; 12]) -> Settled
     requires { ⌜ Whole (now frame) ⌝ }
-    ensures { λ r. ⌜ r ≡ Spec.ranOn (tableOf (now (table .entry))) state (now (frame .entry)) (now (run .entry)) ⌝ }
+    ensures { λ r. ⌜ r ≡ Spec.ranUnder (tableOf (now (table .entry))) state (now (frame .entry)) (now (run .entry)) ⌝ }
 {
     area::settle_frames(state, frame, time_at(run, 1), word_at(run, 3), table)
 }

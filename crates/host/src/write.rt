@@ -16,7 +16,7 @@ use numbers::bits_of_f32;
 use numbers::bits_of_f64;
 
 pub fn put_state(bytes: &mut [u8; 148], s: State)
-    ensures { λ _. ⌜ now (bytes .exit) ≡ bytesOf (Spec.stateWords s) ⌝ }
+    ensures { λ _. ⌜ now (bytes .exit) ≡ Spec.recordOf s ⌝ }
 {
     let offset = s.offset;
     put_numbers(bytes, 0, offset);

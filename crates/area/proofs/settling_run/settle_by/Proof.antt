@@ -21,6 +21,9 @@ settle-frames-requires c κs =
     let start = c .before .before .before .before in
     whole-of-run (start .args .state) (start .args .bytes .now) (start .args .increment) (start .args .limit) _ (c .before .settle-refusal .ensures) (c .if1 .taken)
 
+ended-requires : tie.Need-ended-requires
+ended-requires c κs = search needs
+
 -- the equation, and so what holds of every run
 told : (table : Table) (S : State) (bytes : List ℕ) (increment : Float) (limit : ℕ) (r : Settled) → SettleSays table S bytes increment limit r
     → SettleSays table S bytes increment limit r × RunHolds table S bytes increment limit r
@@ -32,8 +35,8 @@ returns c = told _ _ _ _ _ _ (rw (← c .before .before .settle-refusal .ensures
 
 returns-2 : tie.Need-returns-2
 unfolding settleUnder
-returns-2 c = told _ _ _ _ _ _ (rw (← c .before .settle-refusal .ensures, c .if1 .left))
+returns-2 c = told _ _ _ _ _ _ (rw (← c .before .before .settle-refusal .ensures, c .before .if1 .left, ← c .ended .ensures))
 
 pub settle-by-spec : {M : Type 1} → statement M
 settle-by-spec =
-    tie.close (tie.spec settle-refusal-requires settle-frames-requires returns returns-2)
+    tie.close (tie.spec settle-refusal-requires settle-frames-requires returns ended-requires returns-2)

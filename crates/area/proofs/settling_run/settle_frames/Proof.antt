@@ -38,20 +38,26 @@ slice-aggregate-frame-by c = search needs
 frame-by-requires : tie.Need-frame-by-requires Inv-loop μ-loop
 frame-by-requires c κs = search needs
 
+ended-requires : tie.Need-ended-requires Inv-loop μ-loop
+ended-requires c κs = search needs
+
 returns : tie.Need-returns Inv-loop μ-loop
 returns c =
-    let loop = c .before .before .before .before .before .before .loop in
-    let h : loop .used < c .before .before .before .before .before .before .before .before .before .before .before .before .args .limit = omega arith in
-    refused _ _ _ _ _ _ _ _ (c .before .before .before .frame-by .ensures) h (loop .inv .2) (not-true _ (c .if1 .taken))
+    let loop = c .before .before .before .before .before .before .before .loop in
+    let h : loop .used < c .before .before .before .before .before .before .before .before .before .before .before .before .before .args .limit = omega arith in
+    c .ended .ensures ∙ refused _ _ _ _ _ _ _ _ (c .before .before .before .before .frame-by .ensures) h (loop .inv .2) (not-true _ (c .before .if1 .taken))
 
 add-used : tie.Need-add-used Inv-loop μ-loop
 add-used c = search needs
 
+ended-requires-2 : tie.Need-ended-requires-2 Inv-loop μ-loop
+ended-requires-2 c κs = search needs
+
 returns-2 : tie.Need-returns-2 Inv-loop μ-loop
 returns-2 c =
-    let loop = c .before .before .before .before .before .before .before .before .before .loop in
-    let h : loop .used < c .before .before .before .before .before .before .before .before .before .before .before .before .before .before .before .args .limit = omega arith in
-    rests _ _ _ _ _ _ _ _ (c .before .before .before .before .before .before .frame-by .ensures) h (loop .inv .2) (not-false _ (c .before .before .before .if1 .left)) (not-true _ (c .if2 .taken))
+    let loop = c .before .before .before .before .before .before .before .before .before .before .loop in
+    let h : loop .used < c .before .before .before .before .before .before .before .before .before .before .before .before .before .before .before .before .args .limit = omega arith in
+    c .ended2 .ensures ∙ rests _ _ _ _ _ _ _ _ (c .before .before .before .before .before .before .before .frame-by .ensures) h (loop .inv .2) (not-false _ (c .before .before .before .before .if1 .left)) (not-true _ (c .before .if2 .taken))
 
 slice-aggregate-advance : tie.Need-slice-aggregate-advance Inv-loop μ-loop
 slice-aggregate-advance c = search needs
@@ -69,11 +75,14 @@ loop-again c =
     let goes-on = turns _ _ _ _ _ _ _ _ (c .before .before .before .before .before .before .before .before .before .frame-by .ensures) h (loop .inv .2) (not-false _ (c .before .before .before .before .before .before .if1 .left)) (not-false _ (c .before .before .before .if2 .left)) _ (c .before .advance .ensures) in
     (search needs, search needs, goes-on)
 
+ended-requires-3 : tie.Need-ended-requires-3 Inv-loop μ-loop
+ended-requires-3 c κs = search needs
+
 returns-3 : tie.Need-returns-3 Inv-loop μ-loop
 returns-3 c =
-    let loop = c .before .loop in
-    let h : c .before .before .before .before .before .before .before .args .limit ≤ loop .used = omega arith in
-    finishes _ _ _ _ _ _ _ h (loop .inv .2)
+    let loop = c .before .before .loop in
+    let h : c .before .before .before .before .before .before .before .before .args .limit ≤ loop .used = omega arith in
+    c .ended3 .ensures ∙ finishes _ _ _ _ _ _ _ h (loop .inv .2)
 
 pub settle-frames-spec : {M : Type 1} → statement M
 settle-frames-spec =
@@ -86,11 +95,14 @@ settle-frames-spec =
     loop-holds
     slice-aggregate-frame-by
     frame-by-requires
+    ended-requires
     returns
     add-used
+    ended-requires-2
     returns-2
     slice-aggregate-advance
     advance-requires
     loop-less
     loop-again
+    ended-requires-3
     returns-3)

@@ -13,8 +13,8 @@ up-front-requires c κs = search needs
 state-of-requires : tie.Need-state-of-requires
 state-of-requires c κs = search needs
 
-ran-on-requires : tie.Need-ran-on-requires
-ran-on-requires c κs =
+ran-under-requires : tie.Need-ran-under-requires
+ran-under-requires c κs =
     let start = c .before .before .before .before .before .before .before in
     whole-of-run (start .args .state .now) (start .args .frame .now) (start .args .run .now) _ (c .before .before .before .up-front .ensures) (c .before .before .if1 .taken)
 
@@ -34,10 +34,10 @@ returns c =
       ← c .before .before .before .before .before .before .before .before .before .before .before .up-front .ensures,
       c .before .before .before .before .before .before .before .before .before .before .if1 .taken,
       ← c .before .before .before .before .before .before .before .before .state-of .ensures,
-      ← c .before .before .before .before .before .before .before .ran-on .ensures,
+      ← c .before .before .before .before .before .before .before .ran-under .ensures,
       c .before .before .before .before .put .ensures,
-      put-all (c .before .before .before .before .before .before .before .ran-on .result .used ∷ []) (c .before .before .before .before .before .before .before .before .before .before .before .before .before .before .before .args .used .now) (search needs),
-      lt-ltb 0 (c .before .before .before .before .before .before .before .ran-on .result .used) (c .before .before .if2 .taken),
+      put-all (c .before .before .before .before .before .before .before .ran-under .result .used ∷ []) (c .before .before .before .before .before .before .before .before .before .before .before .before .before .before .before .args .used .now) (search needs),
+      lt-ltb 0 (c .before .before .before .before .before .before .before .ran-under .result .used) (c .before .before .if2 .taken),
       c .put-state .ensures,
     )
 
@@ -48,10 +48,10 @@ returns-2 c =
       ← c .before .before .before .before .before .before .before .before .before .up-front .ensures,
       c .before .before .before .before .before .before .before .before .if1 .taken,
       ← c .before .before .before .before .before .before .state-of .ensures,
-      ← c .before .before .before .before .before .ran-on .ensures,
+      ← c .before .before .before .before .before .ran-under .ensures,
       c .before .before .put .ensures,
-      put-all (c .before .before .before .before .before .ran-on .result .used ∷ []) (c .before .before .before .before .before .before .before .before .before .before .before .before .before .args .used .now) (search needs),
-      le-ltb 0 (c .before .before .before .before .before .ran-on .result .used) (c .if2 .left),
+      put-all (c .before .before .before .before .before .ran-under .result .used ∷ []) (c .before .before .before .before .before .before .before .before .before .before .before .before .before .args .used .now) (search needs),
+      le-ltb 0 (c .before .before .before .before .before .ran-under .result .used) (c .if2 .left),
     )
 
 returns-3 : tie.Need-returns-3
@@ -64,7 +64,7 @@ settle-under-spec =
     (tie.spec
     up-front-requires
     state-of-requires
-    ran-on-requires
+    ran-under-requires
     slice-aggregate-put
     put-requires
     put-state-requires
