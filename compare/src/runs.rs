@@ -6,7 +6,7 @@ use oracle::run_vectors::{Call, Left, Run};
 
 use crate::frames::made;
 use crate::tables::{name_of, Lent, Pool, Serving};
-use crate::tally::{Part, Tally, AT_LIMIT, FIRST_8, INSIDE_3, INSIDE_8, RESTS};
+use crate::tally::{End, Part, Tally};
 
 /// Runs in one list.
 const LIST: u64 = 5_000;
@@ -27,18 +27,16 @@ fn library(given: &Run, table: Option<&Lent>) -> Left {
     }
 }
 
-/// How the run ended, as the tally has it.
-fn end(given: &Run, left: &Left) -> u32 {
+/// How the run ended.
+fn end(given: &Run, left: &Left) -> End {
     let used = u32::from_le_bytes(left.used);
     match left.refusal {
         // What the buffer holds before the call is more than any run uses.
-        refusal if left.used == given.used => refusal,
-        0 if used < given.limit() => RESTS,
-        0 => AT_LIMIT,
-        3 => INSIDE_3,
-        8 if used == 0 => FIRST_8,
-        8 => INSIDE_8,
-        refusal => refusal,
+        refusal if left.used == given.used => refusal.into(),
+        0 if used < given.limit() => End::Rests,
+        0 => End::AtLimit,
+        refusal if used == 0 => End::FirstRefused(refusal),
+        refusal => End::LaterRefused(refusal),
     }
 }
 

@@ -1,5 +1,7 @@
 //! What was compared, what differed, and what was met.
 
+use std::collections::BTreeMap;
+use std::fmt::{self, Display, Formatter};
 use std::io::{self, Write};
 
 use oracle::branches::{self, count_of, BRANCHES};
@@ -7,44 +9,79 @@ use oracle::branches::{self, count_of, BRANCHES};
 /// Differences that are shown in full.
 const SHOWN: u64 = 5;
 
+/// Document 02's last refusal.
+const LAST_REFUSAL: u32 = 18;
+
 #[derive(Default)]
 pub struct Tally {
     pub compared: u64,
     pub different: u64,
-    /// Of each part, by refusal, 0 for an accepted call; of a run, by its end.
-    ends: [[u64; ENDS.len()]; Part::ALL.len()],
+    /// Of each part, how often each end was met.
+    ends: [BTreeMap<End, u64>; Part::ALL.len()],
 }
 
-/// How a call can end: the numbers of an answer, then the ends of a run that was not refused before any frame.
-const ENDS: [&str; 17] = [
-    "accepted",
-    "refused with 1",
-    "refused with 2",
-    "refused with 3",
-    "refused with 4",
-    "refused with 5",
-    "refused with 6",
-    "refused with 7",
-    "refused with 8",
-    "refused with 9",
-    "refused with 10",
-    "refused with 11",
-    "rest, before their limit",
-    "end with the last frame of their limit",
-    "refused inside with 3",
-    "refused inside with 8, at the first frame",
-    "refused inside with 8, at a later frame",
-];
+/// How a call ends, in the order in which ends are shown.
+#[derive(Clone, Copy, PartialEq, Eq, PartialOrd, Ord)]
+pub enum End {
+    /// With 0 or the refusal; a run before any frame.
+    Answered(u32),
+    /// A run, before its limit.
+    Rests,
+    /// A run, with the last frame of its limit.
+    AtLimit,
+    /// A run, with the refusal of its first frame.
+    FirstRefused(u32),
+    /// A run, with the refusal of a later frame.
+    LaterRefused(u32),
+}
 
-pub const RESTS: u32 = 12;
-pub const AT_LIMIT: u32 = 13;
-pub const INSIDE_3: u32 = 14;
-pub const FIRST_8: u32 = 15;
-pub const INSIDE_8: u32 = 16;
+impl From<u32> for End {
+    fn from(number: u32) -> End {
+        End::Answered(number)
+    }
+}
+
+impl End {
+    /// The number of the answer.
+    fn number(self) -> u32 {
+        match self {
+            End::Rests | End::AtLimit => 0,
+            End::Answered(number) | End::FirstRefused(number) | End::LaterRefused(number) => number,
+        }
+    }
+}
+
+impl Display for End {
+    fn fmt(&self, f: &mut Formatter) -> fmt::Result {
+        match self {
+            End::Answered(0) => write!(f, "accepted"),
+            End::Answered(number) => write!(f, "refused with {number}"),
+            End::Rests => write!(f, "rest, before their limit"),
+            End::AtLimit => write!(f, "end with the last frame of their limit"),
+            End::FirstRefused(number) => {
+                write!(f, "refused inside with {number}, at the first frame")
+            }
+            End::LaterRefused(number) => {
+                write!(f, "refused inside with {number}, at a later frame")
+            }
+        }
+    }
+}
 
 /// The ends that every kind of comparison of runs has to meet.
-const OF_RUNS: [u32; 12] = [
-    1, 2, 3, 4, 5, 6, 9, RESTS, AT_LIMIT, INSIDE_3, FIRST_8, INSIDE_8,
+const OF_RUNS: [End; 12] = [
+    End::Answered(1),
+    End::Answered(2),
+    End::Answered(3),
+    End::Answered(4),
+    End::Answered(5),
+    End::Answered(6),
+    End::Answered(9),
+    End::Rests,
+    End::AtLimit,
+    End::FirstRefused(8),
+    End::LaterRefused(3),
+    End::LaterRefused(8),
 ];
 
 /// What is compared.
@@ -97,9 +134,17 @@ impl Part {
 
 impl Tally {
     /// Counts one comparison and how it ended; `what` names it, should the two differ.
-    pub fn count(&mut self, part: Part, end: u32, same: bool, what: impl Fn() -> String) {
+    pub fn count(
+        &mut self,
+        part: Part,
+        end: impl Into<End>,
+        same: bool,
+        what: impl Fn() -> String,
+    ) {
+        let end = end.into();
+        assert!(end.number() <= LAST_REFUSAL, "{}: {end}", part.name());
         self.compared += 1;
-        self.ends[part as usize][end as usize % ENDS.len()] += 1;
+        *self.ends[part as usize].entry(end).or_default() += 1;
         if !same {
             self.different += 1;
             if self.different <= SHOWN {
@@ -118,11 +163,11 @@ impl Tally {
     }
 
     pub fn print(&self) {
-        for (part, ends) in Part::ALL.iter().zip(self.ends) {
-            let all: u64 = ends.iter().sum();
+        for (part, ends) in Part::ALL.iter().zip(&self.ends) {
+            let all: u64 = ends.values().sum();
             println!("{}: {all}", part.name());
-            for (name, count) in ENDS.iter().zip(ends).filter(|(_, count)| *count > 0) {
-                println!("  {count:>12} {name}");
+            for (end, count) in ends {
+                println!("  {count:>12} {end}");
             }
         }
         println!("branches, as the oracle met them");
@@ -138,9 +183,9 @@ impl Tally {
     pub fn has_every_end_of_runs(&self) -> bool {
         let mut missing = Vec::new();
         for part in [Part::Runs, Part::RunsUnder, Part::RunsTLent] {
-            let ends = self.ends[part as usize];
-            let unmet = OF_RUNS.iter().filter(|end| ends[**end as usize] == 0);
-            missing.extend(unmet.map(|end| format!("{}: {}", part.name(), ENDS[*end as usize])));
+            let ends = &self.ends[part as usize];
+            let unmet = OF_RUNS.iter().filter(|end| !ends.contains_key(end));
+            missing.extend(unmet.map(|end| format!("{}: {end}", part.name())));
         }
         let unmet = branches::OF_RUNS
             .iter()
