@@ -1,5 +1,6 @@
 //! The oracle: the documents written out in plain Rust, to compare answers with.
 
+pub mod answers;
 pub mod axis_calls;
 pub mod axis_vectors;
 pub mod branches;

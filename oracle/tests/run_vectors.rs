@@ -3,8 +3,9 @@
 mod common;
 
 use common::assert_no_record_repeats;
+use oracle::answers::Answer;
 use oracle::records::{read_state, write_state, StateBytes, FLAGS};
-use oracle::run_vectors::{answers, fixed_list, fixed_runs, random_list, Answer, Record, Run};
+use oracle::run_vectors::{answers, fixed_list, fixed_runs, random_list, Record, Run};
 use oracle::tables::{kept, unloaded, Table, LENGTH};
 use oracle::words::{from_bytes, in_bytes, in_hex};
 

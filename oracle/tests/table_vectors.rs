@@ -1,10 +1,11 @@
 //! The shape of the records of tables and calls, and what they meet.
 
+use oracle::answers::Answer;
 use oracle::frame_call::frame_call;
 use oracle::frame_state::State;
 use oracle::frame_vectors::random_state;
 use oracle::random::Random;
-use oracle::table_vectors::{answers, fixed_list, random_list, reset_frames, Answer, Record};
+use oracle::table_vectors::{answers, fixed_list, random_list, reset_frames, Record};
 use oracle::tables::{refused, t_bytes};
 use oracle::words::from_bytes;
 
@@ -39,7 +40,7 @@ fn every_line_begins_with_its_kind_and_shows_the_whole_answer() {
     for (list, answers) in lists() {
         for (record, answer) in list.iter().zip(&answers) {
             let words: Vec<&str> = answer.line.trim_end().split(' ').collect();
-            assert_eq!(words[0], Record::NAMES[record.kind() - 1]);
+            assert_eq!(words[0], record.name());
             let lengths: Vec<usize> = words[1..].iter().map(|word| word.len()).collect();
             match record {
                 Record::Load(bytes) => {

@@ -11,13 +11,11 @@ mod place;
 mod random;
 pub(crate) mod random_numbers;
 pub(crate) mod scene;
-mod tally;
 
 use crate::words::{in_bytes, in_hex};
 
 pub use fixed::fixed_list;
 pub use random::random_list;
-pub use tally::tally;
 
 /// The kinds of calls, with their numbers.
 #[derive(Clone, Copy, Debug, PartialEq, Eq)]

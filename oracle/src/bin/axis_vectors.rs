@@ -2,7 +2,8 @@
 //!
 //! `axis_vectors INPUT OUTPUT` writes the fixed list, `axis_vectors INPUT OUTPUT SEED COUNT` a random one.
 
-use oracle::axis_vectors::{fixed_list, random_list, tally, Call};
+use oracle::answers::tally;
+use oracle::axis_vectors::{fixed_list, random_list, Call};
 use oracle::command_line::write_list;
 
 fn main() {
@@ -13,5 +14,6 @@ fn main() {
         Call::input_record,
         Call::output_line,
     );
-    eprint!("{}", tally(&list));
+    let met = list.iter().map(|call| (call.kind().name(), call.refusal()));
+    eprint!("{}", tally(met));
 }

@@ -2,8 +2,9 @@
 //!
 //! `frame_vectors INPUT OUTPUT` writes the fixed list, `frame_vectors INPUT OUTPUT SEED COUNT` a random one.
 
+use oracle::answers::tally;
 use oracle::command_line::write_list;
-use oracle::frame_vectors::{fixed_list, random_list, tally, Call};
+use oracle::frame_vectors::{fixed_list, random_list, Call};
 
 fn main() {
     let list = write_list(
@@ -13,5 +14,6 @@ fn main() {
         Call::input_record,
         Call::output_line,
     );
-    eprint!("{}", tally(&list));
+    let met = list.iter().map(|call| ("frame", call.refusal()));
+    eprint!("{}", tally(met));
 }

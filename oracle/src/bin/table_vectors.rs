@@ -2,21 +2,16 @@
 //!
 //! `table_vectors INPUT OUTPUT` writes the fixed list, `table_vectors INPUT OUTPUT SEED COUNT` a random one.
 
-use oracle::command_line::Request;
-use oracle::table_vectors::{answers, fixed_list, random_list, tally, Answer, Record};
+use oracle::command_line::write_answers;
+use oracle::table_vectors::{answers, fixed_list, random_list, Record};
 
 fn main() {
-    let request = Request::read("table_vectors");
-    let list = match request.random {
-        None => fixed_list(),
-        Some((seed, count)) => random_list(seed, count),
-    };
-    let answers = answers(&list);
-    let records: Vec<u8> = list.iter().flat_map(Record::input_record).collect();
-    let lines: String = answers
-        .iter()
-        .map(|answer: &Answer| &answer.line[..])
-        .collect();
-    request.write(&records, &lines);
-    eprint!("{}", tally(&list, &answers));
+    write_answers(
+        "table_vectors",
+        fixed_list,
+        random_list,
+        Record::input_record,
+        Record::name,
+        answers,
+    );
 }

@@ -14,7 +14,6 @@ pub(crate) mod places;
 mod random;
 pub(crate) mod random_words;
 mod states;
-mod tally;
 
 use std::collections::HashSet;
 
@@ -26,7 +25,6 @@ pub use fixed::fixed_list;
 pub use frame::Frame;
 pub use good::{bare, example, full};
 pub use random::{random_list, random_state};
-pub use tally::tally;
 
 /// How many bytes of a frame a record stores.
 const STORED: usize = 424;

@@ -1,15 +1,10 @@
 //! The answers of a list, each under the table that the loads before it left.
 
 use super::{Record, Run};
+use crate::answers::Answer;
 use crate::host_calls::table_load;
 use crate::tables::{kept, unloaded, Table, TableBytes, LENGTH};
 use crate::words::{from_bytes, in_hex};
-
-/// What a record is answered with: the refusal, 0 for none, and the line that is printed.
-pub struct Answer {
-    pub refusal: u32,
-    pub line: String,
-}
 
 /// The bytes of the table, and what they stand for.
 struct Lent {
@@ -26,8 +21,7 @@ impl Lent {
     fn load(&mut self, bytes: &[u8]) -> Answer {
         let refusal = table_load(bytes, &mut self.bytes);
         *self = Lent::of(self.bytes);
-        let line = format!("load {} {refusal}\n", bytes.len());
-        Answer { refusal, line }
+        Answer::of_load(bytes, refusal)
     }
 }
 

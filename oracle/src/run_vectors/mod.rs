@@ -9,17 +9,15 @@ mod fixed_rests;
 mod lists;
 mod random;
 mod runs;
-mod tally;
 
 use crate::frame_state::State;
 use crate::settling_run::{settle, Settled};
 use crate::words::in_bytes;
 
-pub use answers::{answers, Answer};
+pub use answers::answers;
 pub use fixed::{fixed_calls, fixed_list, fixed_runs};
 pub use random::{arbitrary_calls, on_any_record, random_list, scene_calls};
 pub use runs::{Left, Run, UNWRITTEN};
-pub use tally::tally;
 
 /// One run by value: the state, the frame's bytes, the increment and the limit.
 #[derive(Clone, Debug)]
@@ -54,6 +52,14 @@ pub enum Record {
 }
 
 impl Record {
+    pub fn name(&self) -> &'static str {
+        match self {
+            Record::Load(_) => "load",
+            Record::Run(_) => "run",
+            Record::RunBy(_) => "run by a table",
+        }
+    }
+
     /// The record that asks: the kind's word, and what the kind takes; a load's bytes after their number.
     pub fn input_record(&self) -> Vec<u8> {
         let (kind, rest) = match self {

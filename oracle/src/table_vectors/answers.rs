@@ -1,18 +1,13 @@
 //! The answers of a list, each under the table that serves by then.
 
 use super::Record;
+use crate::answers::Answer;
 use crate::axis_vectors::Call;
 use crate::frame_call::{frame_call, Output};
 use crate::frame_state::State;
 use crate::numbers::Stated as _;
 use crate::tables::{kept, load, under, Table};
 use crate::words::{in_hex, shown};
-
-/// What a record is answered with: the refusal, 0 for none, and the line that is printed.
-pub struct Answer {
-    pub refusal: u32,
-    pub line: String,
-}
 
 /// What a list has led to: the table that serves, none for T, and the state.
 struct Run {
@@ -43,8 +38,7 @@ impl Run {
         let loaded = load(bytes);
         let refusal = *loaded.as_ref().err().unwrap_or(&0);
         self.table = loaded.ok().map(kept);
-        let line = format!("load {} {refusal}\n", bytes.len());
-        Answer { refusal, line }
+        Answer::of_load(bytes, refusal)
     }
 
     fn exp(&self, bits: u32) -> Answer {

@@ -3,15 +3,13 @@
 mod answers;
 mod fixed;
 mod random;
-mod tally;
 
 use crate::axis_vectors::Call;
 use crate::words::in_bytes;
 
-pub use answers::{answers, Answer};
+pub use answers::answers;
 pub use fixed::{fixed_list, reset_frames};
 pub use random::random_list;
-pub use tally::tally;
 
 /// One record of the list.
 #[derive(Clone, Debug)]
@@ -27,9 +25,6 @@ pub enum Record {
 }
 
 impl Record {
-    /// The kinds in the order of their numbers, from 1 on.
-    pub const NAMES: [&'static str; 4] = ["load", "exp", "step", "frame"];
-
     /// The kind's number, from 1 on.
     pub fn kind(&self) -> usize {
         match self {
@@ -38,6 +33,10 @@ impl Record {
             Record::Step(_) => 3,
             Record::Frame(_) => 4,
         }
+    }
+
+    pub fn name(&self) -> &'static str {
+        ["load", "exp", "step", "frame"][self.kind() - 1]
     }
 
     /// The record that asks: the kind's word, and what the kind takes; a load's bytes after their number.
