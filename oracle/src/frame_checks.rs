@@ -7,7 +7,7 @@ pub const LENGTH: usize = 416;
 const LIMIT: f32 = 1_048_576.0;
 
 /// The latest time, 2^32.
-const LATEST: f64 = 4_294_967_296.0;
+pub const LATEST: f64 = 4_294_967_296.0;
 
 /// The lowest number of 1 to 5 that applies to these bytes, or 0.
 pub fn frame_refusal(bytes: &[u8]) -> u32 {

@@ -65,7 +65,7 @@ const UP_FRONT: [Branch; 5] = [
 ];
 
 /// Flags that are 1 where hand or program moves an axis: explicit offsets, a drag, its end, presses on the bars, scroll targets.
-const MOVING_FLAGS: [(usize, Branch); 8] = [
+pub(crate) const MOVING_FLAGS: [(usize, Branch); 8] = [
     (15, Branch::OnlyWord15),
     (17, Branch::OnlyWord17),
     (61, Branch::OnlyWord61),
@@ -77,7 +77,7 @@ const MOVING_FLAGS: [(usize, Branch); 8] = [
 ];
 
 /// The wheel's and the scroll delta, which move an axis unless they are 0.
-const MOVING_NUMBERS: [(usize, Branch); 4] = [
+pub(crate) const MOVING_NUMBERS: [(usize, Branch); 4] = [
     (64, Branch::OnlyWord64),
     (65, Branch::OnlyWord65),
     (86, Branch::OnlyWord86),

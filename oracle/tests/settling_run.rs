@@ -2,28 +2,11 @@
 
 use oracle::frame_call::frame_call;
 use oracle::frame_state::State;
-use oracle::frame_vectors::{example, Frame};
+use oracle::frame_vectors::Frame;
+use oracle::run_vectors::lists::{list, moving, SCREEN};
 use oracle::run_vectors::{arbitrary_calls, fixed_calls, scene_calls, Call};
 use oracle::settling_run::{refusal_up_front, settle, Settled};
 use oracle::tables::{good, kept, under};
-
-const SCREEN: f64 = 1.0 / 60.0;
-
-/// Document 01's example without sticking: content of 400 in a view of 100.
-fn list() -> Frame {
-    example()
-        .with(25, 0)
-        .with_numbers(37, &[0.325, 0.1])
-        .with_number(51, SCREEN as f32)
-        .with_time(10.0f64.to_bits())
-}
-
-/// The state of that list at that offset with that velocity.
-fn moving(offset: f32, velocity: f32) -> State {
-    let mut state = frame_call(State::default(), &list().bytes()).state;
-    (state.offset[1], state.vel[1]) = (offset, velocity);
-    state
-}
 
 fn refusal(frame: Frame, increment: f64, limit: u32) -> u32 {
     settle(moving(150.0, 90.0), &frame.bytes(), increment, limit).refusal

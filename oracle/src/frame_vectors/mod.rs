@@ -27,7 +27,7 @@ pub use good::{bare, example, full};
 pub use random::{random_list, random_state};
 
 /// How many bytes of a frame a record stores.
-const STORED: usize = 424;
+pub(crate) const STORED: usize = 424;
 
 /// One call: the frame's bytes and the state given.
 #[derive(Clone, Debug)]

@@ -2,13 +2,11 @@
 
 use super::lists::{list, moving, on_its_way, paced, restless, with_band, END, NOW, SCREEN};
 use super::Call;
+use crate::frame_checks::LATEST;
 use crate::frame_state::State;
 use crate::settling_run::MOST_FRAMES;
 
-/// 2^32, the last time; one step before it is 2^-21.
-const LATEST: f64 = 4_294_967_296.0;
-
-/// The step of the times below the last one.
+/// The step of the times below the last one, 2^-21.
 const STEP: f64 = 1.0 / 2_097_152.0;
 
 fn at(time: f64, increment: f64, limit: u32) -> Call {

@@ -3,14 +3,8 @@
 use super::lists::{list, moving, on_its_way, paced, restless};
 use super::Call;
 use crate::frame_vectors::Frame;
-use crate::settling_run::MOST_FRAMES;
+use crate::settling_run::{MOST_FRAMES, MOVING_FLAGS, MOVING_NUMBERS};
 use crate::words::{INF, NAN, SMALLEST};
-
-/// The flags of hand and program.
-const FLAGS: [usize; 8] = [15, 17, 61, 62, 74, 79, 91, 98];
-
-/// The wheel's and the scroll delta.
-const DELTAS: [usize; 4] = [64, 65, 86, 87];
 
 /// A short run on a moving list.
 fn short(frame: Frame) -> Call {
@@ -135,8 +129,8 @@ pub fn moving_words() -> Vec<Call> {
     let mut calls = Vec::new();
     // The second list heeds nothing: it scrolls in no direction and is not enabled.
     for frame in [good(heeding), good(list()).with(2, 0)] {
-        calls.extend(FLAGS.map(|flag| short(frame.with(flag, 1))));
-        for delta in DELTAS {
+        calls.extend(MOVING_FLAGS.map(|(flag, _)| short(frame.with(flag, 1))));
+        for (delta, _) in MOVING_NUMBERS {
             let numbers = [-0.0, SMALLEST, -SMALLEST, 5.0, -5.0];
             calls.extend(numbers.map(|x| short(frame.with_number(delta, x))));
         }

@@ -6,7 +6,7 @@ mod fixed_inside;
 mod fixed_records;
 mod fixed_refusals;
 mod fixed_rests;
-mod lists;
+pub mod lists;
 mod random;
 mod runs;
 

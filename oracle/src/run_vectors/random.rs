@@ -2,27 +2,15 @@
 
 use super::{Call, Record, Run};
 use crate::frame_call::frame_call;
-use crate::frame_checks::LENGTH;
+use crate::frame_checks::{LATEST, LENGTH};
 use crate::frame_state::State;
-use crate::frame_vectors::{random_state, Frame};
+use crate::frame_vectors::{random_state, Frame, STORED};
 use crate::random::Random;
-use crate::records::FLAGS as FLAGS_OF_STATE;
+use crate::records::FLAGS;
 use crate::scenes::{fling_list, scene_list};
-use crate::settling_run::MOST_FRAMES;
-use crate::tables::{bytes_of, random_good, random_refused};
+use crate::settling_run::{MOST_FRAMES, MOVING_FLAGS, MOVING_NUMBERS};
+use crate::tables::random_load;
 use crate::words::from_bytes;
-
-/// Flags that are 1 where hand or program moves an axis.
-const FLAGS: [usize; 8] = [15, 17, 61, 62, 74, 79, 91, 98];
-
-/// The wheel's and the scroll delta.
-const DELTAS: [usize; 4] = [64, 65, 86, 87];
-
-/// 2^32, the last time.
-const LATEST: f64 = 4_294_967_296.0;
-
-/// The longest frame of a run, eight bytes too long.
-const LONGEST: usize = LENGTH + 8;
 
 /// That many pseudo-random records, a load now and then.
 pub fn random_list(seed: u64, count: usize) -> Vec<Record> {
@@ -31,7 +19,7 @@ pub fn random_list(seed: u64, count: usize) -> Vec<Record> {
     calls.extend(arbitrary_calls(random.long(), count / 2 + 1));
     let mut calls = calls.into_iter().cycle();
     let mut record = |_| match random.below(32) {
-        0 => Record::Load(table(random)),
+        0 => Record::Load(random_load(random)),
         kind => {
             let run = on_any_record(random, &calls.next().expect("a run"));
             match kind % 2 {
@@ -43,14 +31,6 @@ pub fn random_list(seed: u64, count: usize) -> Vec<Record> {
     (0..count).map(&mut record).collect()
 }
 
-fn table(random: &mut Random) -> Vec<u8> {
-    match random.below(4) {
-        0 => random_refused(random),
-        1 => Vec::new(),
-        _ => bytes_of(&random_good(random)).to_vec(),
-    }
-}
-
 /// The run on a record: with anything in every other one's absent options and in the buffer, and at times with a damaged flag.
 pub fn on_any_record(random: &mut Random, call: &Call) -> Run {
     let mut run = Run::of(call);
@@ -60,13 +40,13 @@ pub fn on_any_record(random: &mut Random, call: &Call) -> Run {
         run = run.with_absent(|| random.word());
     }
     if random.below(64) == 0 {
-        let flag = FLAGS_OF_STATE[random.below(FLAGS_OF_STATE.len())];
+        let flag = FLAGS[random.below(FLAGS.len())];
         run.state[4 * flag + random.below(4)] = 2 + random.below(254) as u8;
     }
     run
 }
 
-/// Scenes and flings by turns, with one short frame at the most.
+/// All of scenes or all of flings, with one short frame at the most.
 fn frames(random: &mut Random, count: usize) -> Vec<Vec<u8>> {
     match random.below(2) {
         0 => scene_list(random.long(), count),
@@ -121,7 +101,7 @@ fn random_call(random: &mut Random, state: State, bytes: &[u8]) -> Call {
     };
     if random.below(128) == 0 {
         let near = 410 + random.below(15);
-        frame.resize([near, random.below(LONGEST + 1)][random.below(2)], 0);
+        frame.resize([near, random.below(STORED + 1)][random.below(2)], 0);
     }
     Call {
         state,
@@ -138,11 +118,13 @@ fn stilled(random: &mut Random, bytes: &[u8], increment: f64) -> Vec<u8> {
     }
     let words = from_bytes(bytes).try_into().expect("104 words");
     let zero = random.one_of(&[0, 0x8000_0000]);
-    let mut frame = Frame::of(words).with_all(FLAGS, 0).with_all(DELTAS, zero);
+    let mut frame = Frame::of(words)
+        .with_all(MOVING_FLAGS.map(|(flag, _)| flag), 0)
+        .with_all(MOVING_NUMBERS.map(|(number, _)| number), zero);
     if random.below(16) == 0 {
         frame = match random.below(12) {
-            flag @ ..8 => frame.with(FLAGS[flag], 1),
-            delta => frame.with(DELTAS[delta - 8], random.word() >> 2),
+            flag @ ..8 => frame.with(MOVING_FLAGS[flag].0, 1),
+            delta => frame.with(MOVING_NUMBERS[delta - 8].0, random.word() >> 2),
         };
     }
     if random.below(16) == 0 {

@@ -1,13 +1,11 @@
 //! A run in the bytes that the library takes; some records are those of no state.
 
 use super::Call;
+use crate::frame_vectors::STORED;
 use crate::host_calls::{settle, settle_by, RunBytes};
 use crate::records::{write_state, StateBytes, OPTIONS};
 use crate::tables::Table;
 use crate::words::{from_bytes, in_bytes};
-
-/// How many bytes of a frame are stored.
-const STORED: usize = 424;
 
 /// What the buffer for the frames used holds if nothing else is said; no run uses so many.
 pub const UNWRITTEN: [u8; 4] = [0xff; 4];

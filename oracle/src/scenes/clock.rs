@@ -1,10 +1,9 @@
 //! The host's clock: forward, standing, back, jumping.
 
 use crate::axis_vectors::random_numbers::{between, pick};
+use crate::frame_checks::LATEST;
 use crate::frame_vectors::Frame;
 use crate::random::Random;
-
-const LATEST: f64 = 4_294_967_296.0;
 
 #[derive(Clone, Copy)]
 enum Pace {

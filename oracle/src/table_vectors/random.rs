@@ -4,7 +4,7 @@ use super::Record;
 use crate::axis_vectors::{self, Kind};
 use crate::random::Random;
 use crate::scenes::{fling_list, scene_list};
-use crate::tables::{bytes_of, random_good, random_refused};
+use crate::tables::random_load;
 use crate::words::EDGES;
 
 /// That many pseudo-random records.
@@ -13,7 +13,7 @@ pub fn random_list(seed: u64, count: usize) -> Vec<Record> {
     let mut frames = frames(random.long(), count).into_iter().cycle();
     let mut steps = steps(random.long(), count).into_iter().cycle();
     let mut record = |_| match random.below(16) {
-        0 => Record::Load(table(random)),
+        0 => Record::Load(random_load(random)),
         1..=5 => Record::Exp(argument(random)),
         6..=9 => steps.next().expect("a step"),
         _ => frames.next().expect("a frame"),
@@ -33,14 +33,6 @@ fn steps(seed: u64, count: usize) -> Vec<Record> {
     let calls = axis_vectors::random_list(seed, count + 2).into_iter();
     let steps = calls.filter(|call| call.kind() == Kind::Step);
     steps.map(Record::Step).collect()
-}
-
-fn table(random: &mut Random) -> Vec<u8> {
-    match random.below(4) {
-        0 => random_refused(random),
-        1 => Vec::new(),
-        _ => bytes_of(&random_good(random)).to_vec(),
-    }
 }
 
 /// Down to -96, near where the entry changes, or any bits but those of another not-a-number than the one that is printed.

@@ -7,6 +7,7 @@ use std::cell::Cell;
 
 use crate::branches::{met, Branch};
 use crate::numbers::TABLE;
+use crate::random::Random;
 
 pub use bad::{random_refused, refused, Refused};
 pub use good::{good, random_good, Good};
@@ -71,6 +72,15 @@ pub fn bytes_of(table: &Table) -> TableBytes {
 /// T itself as a maker would ship it.
 pub fn t_bytes() -> TableBytes {
     bytes_of(&TABLE)
+}
+
+/// Bytes to load: those of a table, none at all, or others that do not load.
+pub fn random_load(random: &mut Random) -> Vec<u8> {
+    match random.below(4) {
+        0 => random_refused(random),
+        1 => Vec::new(),
+        _ => bytes_of(&random_good(random)).to_vec(),
+    }
 }
 
 /// Document 02: "which nobody writes after loading"; it stays for as long as the program runs.
