@@ -116,8 +116,11 @@ pub const OF_TABLES: [Branch; 7] = [
     Branch::TableLoads,
 ];
 
-/// Those that frames alone cannot meet: a run's, from the first of them on.
-pub const OF_RUNS: &[(Branch, &str)] = BRANCHES.split_at(Branch::RunRests as usize).1;
+/// Those that frames alone cannot meet: a run's, from the first to the last of them.
+pub const OF_RUNS: &[(Branch, &str)] = {
+    let (up_to_last, _) = BRANCHES.split_at(Branch::OnlyWord98 as usize + 1);
+    up_to_last.split_at(Branch::RunRests as usize).1
+};
 
 #[cfg(feature = "branches")]
 mod counts {
