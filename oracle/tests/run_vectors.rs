@@ -4,8 +4,9 @@ mod common;
 
 use common::assert_no_record_repeats;
 use oracle::answers::Answer;
+use oracle::host_calls::table_load;
 use oracle::records::{read_state, write_state, StateBytes, FLAGS};
-use oracle::run_vectors::{answers, fixed_list, fixed_runs, random_list, Record, Run};
+use oracle::run_vectors::{answers, fixed_list, fixed_runs, random_list, Left, Record, Run};
 use oracle::tables::{kept, unloaded, Table, LENGTH};
 use oracle::words::{from_bytes, in_bytes, in_hex};
 
@@ -70,20 +71,27 @@ fn holds(run: &Run, bytes: &[u8]) -> bool {
         && bytes[592..] == run.used
 }
 
+/// The refusal of a run, and the line that shows it and both buffers.
+fn shown(left: &Left) -> (u32, String) {
+    let words = [from_bytes(&left.used), from_bytes(&left.state)].concat();
+    let line = format!("run {}{}\n", left.refusal, in_hex(&words));
+    (left.refusal, line)
+}
+
 #[test]
 fn every_line_shows_the_refusal_and_both_buffers() {
     for (list, answers) in lists() {
+        let mut table = [0; LENGTH];
         for (record, answer) in list.iter().zip(&answers) {
-            let refusal = answer.refusal;
-            let line = match record {
-                Record::Load(bytes) => format!("load {} {refusal}\n", bytes.len()),
-                _ => {
-                    let words = words_of(answer);
-                    assert_eq!(words.len(), 38);
-                    format!("run {refusal}{}\n", in_hex(&words))
+            let (refusal, line) = match record {
+                Record::Load(bytes) => {
+                    let refusal = table_load(bytes, &mut table);
+                    (refusal, format!("load {} {refusal}\n", bytes.len()))
                 }
+                Record::Run(run) => shown(&run.left(None)),
+                Record::RunBy(run) => shown(&run.left(Some(taken(&table)))),
             };
-            assert_eq!(answer.line, line);
+            assert_eq!((answer.refusal, &answer.line), (refusal, &line));
         }
     }
 }

@@ -229,13 +229,16 @@ fn a_refusal_inside_leaves_the_frames_before_it() {
 fn a_run_reads_the_table_that_serves() {
     let run = || settle(moving(150.0, 90.0), &list().bytes(), SCREEN, 10_000);
     let by_t = run().used;
+    let mut met = 0;
     for table in good(1) {
         let found = under(kept(table.table), run).used;
         match table.name {
             "T" => assert_eq!(found, by_t),
             "zero after the first" | "half" => assert!(found < 10, "{found}"),
             "slower than T" | "constant" => assert!(found > 2 * by_t, "{found}"),
-            _ => {}
+            _ => continue,
         }
+        met += 1;
     }
+    assert_eq!(met, 5);
 }

@@ -53,9 +53,11 @@ pub fn fixed_list() -> Vec<Record> {
     let mut list: Vec<Record> = fixed_runs().into_iter().map(Record::Run).collect();
     // Nobody loaded the zeros that are there at first.
     list.extend(that_show_the_table().iter().map(Run::of).map(Record::RunBy));
-    let tables = good(SEED).into_iter();
-    for table in tables.filter(|table| TABLES.contains(&table.name)) {
-        list.push(Record::Load(bytes_of(&table.table).to_vec()));
+    let tables = good(SEED);
+    for name in TABLES {
+        let table = tables.iter().find(|table| table.name == name);
+        let entries = &table.expect("a table of that kind").table;
+        list.push(Record::Load(bytes_of(entries).to_vec()));
         list.extend(under_tables().into_iter().map(Record::RunBy));
     }
     for bytes in that_do_not_load() {

@@ -1,4 +1,4 @@
-//! What the tests of the three lists of calls share.
+//! What the tests of the lists share.
 
 /// No record stands in the list twice.
 pub fn assert_no_record_repeats(mut records: Vec<Vec<u8>>) {
