@@ -60,21 +60,20 @@ impl Side {
 }
 
 /// A list, made in a thread of its own: the branches that it meets while it is made do not count.
-pub fn made<A: Send + 'static>(list: fn(u64, usize) -> Vec<A>, seed: u64, count: usize) -> Vec<A> {
-    let made = thread::spawn(move || list(seed, count)).join();
-    made.expect("the list is made")
+pub fn made<A: Send + 'static>(list: impl FnOnce() -> Vec<A> + Send + 'static) -> Vec<A> {
+    thread::spawn(list).join().expect("the list is made")
 }
 
 /// A list of scenes.
 pub fn scenes(seed: u64, count: usize) -> Vec<Vec<u8>> {
-    made(scene_list, seed, count)
+    made(move || scene_list(seed, count))
 }
 
 /// A list of scenes; under tables every other one is of flings, where they show.
 fn list_for(pool: Option<&Pool>, seed: u64, count: usize) -> Vec<Vec<u8>> {
     let is_even = (seed / LIST as u64).is_multiple_of(2);
     match pool {
-        Some(_) if is_even => made(fling_list, seed, count),
+        Some(_) if is_even => made(move || fling_list(seed, count)),
         _ => scenes(seed, count),
     }
 }

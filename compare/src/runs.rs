@@ -42,17 +42,18 @@ fn end(given: &Run, left: &Left) -> End {
 
 /// The runs that are stored for the gate, and those of them on states once more, on any records.
 fn stored_runs(random: &mut Random) -> Vec<Run> {
-    let mut runs = made(|_, _| fixed_runs(), 0, 0);
-    let calls = made(|_, _| fixed_calls(), 0, 0);
+    let mut runs = made(fixed_runs);
+    let calls = made(fixed_calls);
     runs.extend(calls.iter().map(|call| on_any_record(random, call)));
     runs
 }
 
 /// Of scenes and on arbitrary states by turns.
 fn random_runs(random: &mut Random, number: u64, count: usize) -> Vec<Run> {
+    let seed = random.long();
     let calls = match number % 2 {
-        0 => made(scene_calls, random.long(), count),
-        _ => made(arbitrary_calls, random.long(), count),
+        0 => made(move || scene_calls(seed, count)),
+        _ => made(move || arbitrary_calls(seed, count)),
     };
     let run = |call: &Call| on_any_record(random, call);
     calls.iter().map(run).collect()
