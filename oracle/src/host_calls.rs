@@ -45,8 +45,11 @@ pub fn frame_by(
 /// A settling run's increment, low word first, and its limit.
 pub type RunBytes = [u8; 12];
 
+/// The frames that a settling run used.
+pub type UsedBytes = [u8; 4];
+
 /// 0 or the refusal; on one up front neither buffer changes, on one inside both hold what the frames before it led to.
-pub fn settle(state: &mut StateBytes, frame: &[u8], run: &RunBytes, used: &mut [u8; 4]) -> u32 {
+pub fn settle(state: &mut StateBytes, frame: &[u8], run: &RunBytes, used: &mut UsedBytes) -> u32 {
     let mut reader = Reader::of(run);
     let (increment, limit) = (reader.double(), reader.word());
     let given = read_state(state);
@@ -69,7 +72,7 @@ pub fn settle_by(
     frame: &[u8],
     table: &'static Table,
     run: &RunBytes,
-    used: &mut [u8; 4],
+    used: &mut UsedBytes,
 ) -> u32 {
     tables::under(table, || settle(state, frame, run, used))
 }

@@ -2,13 +2,13 @@
 
 use super::Call;
 use crate::frame_vectors::STORED;
-use crate::host_calls::{settle, settle_by, RunBytes};
+use crate::host_calls::{settle, settle_by, RunBytes, UsedBytes};
 use crate::records::{write_state, StateBytes, OPTIONS};
 use crate::tables::Table;
 use crate::words::{from_bytes, in_bytes};
 
 /// What the buffer for the frames used holds if nothing else is said; no run uses so many.
-pub const UNWRITTEN: [u8; 4] = [0xff; 4];
+pub const UNWRITTEN: UsedBytes = [0xff; 4];
 
 /// What the call is handed.
 #[derive(Clone, Debug)]
@@ -16,7 +16,7 @@ pub struct Run {
     pub state: StateBytes,
     pub frame: Vec<u8>,
     pub run: RunBytes,
-    pub used: [u8; 4],
+    pub used: UsedBytes,
 }
 
 /// The answer, and what both buffers hold after the call.
@@ -24,7 +24,7 @@ pub struct Run {
 pub struct Left {
     pub refusal: u32,
     pub state: StateBytes,
-    pub used: [u8; 4],
+    pub used: UsedBytes,
 }
 
 impl Run {
