@@ -73,7 +73,7 @@ def main():
         text(LEFT, 22, f"A list of {ROWS} rows is flung from its first: frames until it rests, {RATE} a second", 'font-size="15"'),
         *axes(at, fastest, top),
     ]
-    for (decay_time, bands), colour in zip(curves.items(), COLOURS):
+    for (decay_time, bands), colour in zip(curves.items(), COLOURS, strict=True):
         for rubber_band, frames in bands.items():
             out.append(polyline([at(*fling) for fling in frames.items()], f'stroke="{colour}" {STYLES[rubber_band]}'))
         out.extend(notes(at, decay_time, bands[0], bands[1], colour))
