@@ -107,13 +107,14 @@ uint32_t strakobud_frame_by(uint8_t state[STRAKOBUD_STATE_BYTES], const uint8_t 
  * 1 to 6 or 9 ahead of the first frame: neither buffer is changed. After that used holds the frames used, in one word,
  * and the state is the one after them, also where a frame inside was refused and ended the run with its number: 8, or 3
  * once the time is above 2^32, and no other. If that was the first one, with 8, 0 are used and the state is as given. With
- * used set to 0 before the call it is right after every answer. A frame that was cleared of its input, as above, moves no
- * axis.
+ * used set to 0 before the call it is right after every answer. 0 with used below the limit: the list rests; with used
+ * equal to the limit it may or may not. A frame that was cleared of its input, as above, moves no axis.
  *
  * Rest is not stillness. A held overscroll rests with the velocity that it keeps. With rubber band off, a list that has
- * run into its end stands there, and rests once its velocity has decayed. The limit alone ends a run with a stop_distance
- * of 0, also of a list that stands still; one of a coasting list with a stable_dt of 0; and one with a scroll target whose
- * start the clock does not reach, or whose span it stands in with an increment and a stable_dt of 0. */
+ * run into its end stands there, and rests in the next frame if its bar shows (its factor is not 0), else once its
+ * velocity has decayed. Some lists never rest, so that the limit ends their run: with a stop_distance of 0 even one that
+ * stands still; with a stable_dt of 0 one that coasts or springs back; one with a scroll target while the clock stands at
+ * its start or before it, or in its span with a stable_dt of 0. */
 uint32_t strakobud_settle(uint8_t state[STRAKOBUD_STATE_BYTES], const uint8_t *frame, size_t len,
                           const uint8_t run[STRAKOBUD_RUN_BYTES], uint8_t used[STRAKOBUD_USED_BYTES]);
 

@@ -110,15 +110,17 @@ static void flick(uint8_t *state, uint8_t *frame)
     clear_input(frame);
 }
 
-/* Frames of a sixtieth of a second until the list rests, at most 10,000. */
+/* Frames of a sixtieth of a second until the list rests, at most 10,000; with all of them used it may not rest yet. */
 static void settle(uint8_t *state, const uint8_t *frame)
 {
+    const uint32_t limit = 10000;
     uint8_t run[STRAKOBUD_RUN_BYTES], used[STRAKOBUD_USED_BYTES] = {0};
     char what[40];
     put_time(run, 1, 1.0 / 60);
-    put_word(run, 3, 10000);
+    put_word(run, 3, limit);
     uint32_t refusal = strakobud_settle(state, frame, STRAKOBUD_FRAME_BYTES, run, used);
-    snprintf(what, sizeof what, "%" PRIu32 " frames until it rests", word_at(used, 1));
+    uint32_t frames = word_at(used, 1);
+    snprintf(what, sizeof what, "%" PRIu32 " frames%s", frames, frames < limit ? " until it rests" : "");
     show(what, refusal, state);
 }
 

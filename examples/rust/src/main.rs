@@ -43,7 +43,9 @@ impl Frame {
 
     /// Without what a hand or a program asks of the list.
     fn clear_input(&mut self) {
-        for number in [15, 17, 54, 57, 58, 59, 60, 61, 62, 64, 65, 74, 79, 86, 87, 91, 98] {
+        for number in [
+            15, 17, 54, 57, 58, 59, 60, 61, 62, 64, 65, 74, 79, 86, 87, 91, 98,
+        ] {
             self.word(number, 0);
         }
     }
@@ -82,14 +84,16 @@ fn flick(state: &mut strakobud::StateBytes, frame: &mut Frame) {
     frame.clear_input();
 }
 
-/// Frames of a sixtieth of a second until the list rests, at most 10,000.
+/// Frames of a sixtieth of a second until the list rests, at most 10,000; with all of them used it may not rest yet.
 fn settle(state: &mut strakobud::StateBytes, frame: &Frame) {
+    const LIMIT: u32 = 10_000;
     let (mut run, mut used) = ([0; 12], [0; 4]);
     run[..8].copy_from_slice(&(1.0 / 60.0_f64).to_le_bytes());
-    run[8..].copy_from_slice(&10_000_u32.to_le_bytes());
+    run[8..].copy_from_slice(&LIMIT.to_le_bytes());
     let refusal = strakobud::settle(state, &frame.0, &run, &mut used);
     let used = u32::from_le_bytes(used);
-    show(&format!("{used} frames until it rests"), refusal, state);
+    let rests = if used < LIMIT { " until it rests" } else { "" };
+    show(&format!("{used} frames{rests}"), refusal, state);
 }
 
 fn main() {
