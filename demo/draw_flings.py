@@ -70,7 +70,7 @@ def main():
     out = [
         f'<svg xmlns="http://www.w3.org/2000/svg" viewBox="0 0 {WIDTH} {HEIGHT}" font-family="sans-serif" font-size="12">',
         f'<rect width="{WIDTH}" height="{HEIGHT}" fill="white"/>',
-        text(LEFT, 22, f"A list of {ROWS} rows is flung from its first: frames until it rests, {RATE} a second", 'font-size="15"'),
+        text(LEFT, 22, f"A list of {ROWS} rows, its bar hidden, is flung from its first: frames until it rests, {RATE} a second", 'font-size="15"'),
         *axes(at, fastest, top),
     ]
     for (decay_time, bands), colour in zip(curves.items(), COLOURS, strict=True):
