@@ -3,7 +3,7 @@ use Prim.Native.Nat.{ℕ, zero, suc, _≤_, _<_, _+_}
 use native.Mathlib.Nat.{zero-add, add-zero}
 use native.Mathlib.Omega.{arith}
 use mathlib.Core.Path.{_≡_, refl, sym, ap, subst, _∙_}
-use mathlib.Core.Bool.{true, false}
+use mathlib.Core.Bool.{true, false, cond}
 use mathlib.Core.List.{List}
 use borrow.Author.Tests.{eqb-true}
 use lib.Dec.{eqb}
@@ -34,19 +34,26 @@ whole-of-run state bytes increment limit r e a =
 
 -- ---- one frame
 module _ (table : Table) (increment : Float) (n : ℕ) (state : State) (frame : List ℕ) (r : Answer) (is : r ≡ callUnder table state frame) where
-  pub step-refused : isAccepted r ≡ false → settleFrom table increment (suc n) state frame ≡ endedWith (r .outcome .refusal) state
+  abbrev stepped : Answer → Settled
+  stepped a =
+      cond (isAccepted a)
+      (counted (cond (a .outcome .repaint) (settleFrom table increment n (a .state) (advanced increment frame)) (endedWith 0 (a .state))))
+      (endedWith (a .outcome .refusal) state)
+
+  unrolled : settleFrom table increment (suc n) state frame ≡ stepped r
   unfolding settleFrom
-  step-refused a = rw (← is, a)
+  unrolled = ap stepped (sym is)
+
+  pub step-refused : isAccepted r ≡ false → settleFrom table increment (suc n) state frame ≡ endedWith (r .outcome .refusal) state
+  step-refused a = unrolled ∙ rw a
 
   pub step-rests : isAccepted r ≡ true → r .outcome .repaint ≡ false
       → settleFrom table increment (suc n) state frame ≡ counted (endedWith 0 (r .state))
-  unfolding settleFrom
-  step-rests a p = rw (← is, a, p)
+  step-rests a p = unrolled ∙ rw (a, p)
 
   pub step-on : isAccepted r ≡ true → r .outcome .repaint ≡ true
       → settleFrom table increment (suc n) state frame ≡ counted (settleFrom table increment n (r .state) (advanced increment frame))
-  unfolding settleFrom
-  step-on a p = rw (← is, a, p)
+  step-on a p = unrolled ∙ rw (a, p)
 
 -- ---- the loop's invariant: after `used` frames, what is left of the run leads to the answer of the whole
 abbrev after : ℕ → Settled → Settled

@@ -12,9 +12,20 @@ use Rattle.area.specs.SettlingRun.{settleRefusal}
 use Rattle.area.proofs.TestLaws.{both-zero}
 use Rattle.area.proofs.SettlingRunLaws as area
 use Rattle.host.specs.Record.{stateOf, isDamaged}
+use Rattle.host.specs.Calls.{damagedRefusal}
 use Rattle.host.specs.SettlingRun.{incrementOf, limitOf, upFrontOn}
 
--- a damaged record is turned back
+-- ---- up front, of a damaged record and of any other
+module _ (state frame run : List ℕ) where
+  pub damaged-refused : isDamaged state ≡ true → upFrontOn state frame run ≡ damagedRefusal frame
+  unfolding upFrontOn
+  damaged-refused h = rw h
+
+  pub undamaged-asked : isDamaged state ≡ false → upFrontOn state frame run ≡ settleRefusal (stateOf state) frame (incrementOf run) (limitOf run)
+  unfolding upFrontOn
+  undamaged-asked h = rw h
+
+-- ---- so a damaged record is turned back
 passed-by : (damaged : Bool) (frame : List ℕ) (r : ℕ)
     → eqb (cond damaged (cond (eqb (frameRefusal frame) 0) 6 (frameRefusal frame)) r) 0 ≡ true → eqb r 0 ≡ true
 passed-by true frame r h =

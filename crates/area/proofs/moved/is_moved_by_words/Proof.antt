@@ -77,14 +77,14 @@ returns c =
       offset-word d (start .pre .1),
       press-word d (start .pre .1),
       target-word d (start .pre .1),
-      ← c .before .before .before .before .before .before .before .flag-at .ensures,
-      ← c .before .before .before .before .before .before .flag-at2 .ensures,
-      ← c .before .before .before .before .before .flag-at3 .ensures,
-      ← c .before .before .before .before .flag-at4 .ensures,
-      ← c .before .before .before .flag-at5 .ensures,
-      ← c .before .before .number-at .ensures,
-      ← c .before .number-at2 .ensures,
-      ← c .number-at3 .ensures,
+      c .number-at3 .ensures,
+      c .before .number-at2 .ensures,
+      c .before .before .number-at .ensures,
+      c .before .before .before .flag-at5 .ensures,
+      c .before .before .before .before .flag-at4 .ensures,
+      c .before .before .before .before .before .flag-at3 .ensures,
+      c .before .before .before .before .before .before .flag-at2 .ensures,
+      c .before .before .before .before .before .before .before .flag-at .ensures,
     )
 
 pub is-moved-by-words-spec : {M : Type 1} → statement M

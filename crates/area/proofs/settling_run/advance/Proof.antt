@@ -26,10 +26,10 @@ returns : tie.Need-returns
 unfolding advanced frameOf hostOf
 returns c =
     rw (
-      ← c .before .before .before .before .before .before .before .time .ensures,
-      ← c .before .before .before .before .before .bits-of-f64 .ensures,
-      ← c .before .before .before .before .long-words .ensures,
-      ← c .before .before .put .ensures,
+      c .before .before .put .ensures,
+      c .before .before .before .before .long-words .ensures,
+      c .before .before .before .before .before .bits-of-f64 .ensures,
+      c .before .before .before .before .before .before .before .time .ensures,
     )
 
 pub advance-spec : {M : Type 1} → statement M

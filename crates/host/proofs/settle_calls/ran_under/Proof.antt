@@ -14,7 +14,7 @@ settle-frames-requires c κs = search needs
 
 returns : tie.Need-returns
 unfolding ranUnder incrementOf limitOf
-returns c = rw (← c .before .before .before .time-at .ensures, ← c .before .word-at .ensures, ← c .settle-frames .ensures)
+returns c = rw (c .settle-frames .ensures, c .before .word-at .ensures, c .before .before .before .time-at .ensures)
 
 pub ran-under-spec : {M : Type 1} → statement M
 ran-under-spec =
