@@ -113,8 +113,9 @@ uint32_t strakobud_frame_by(uint8_t state[STRAKOBUD_STATE_BYTES], const uint8_t 
  * Rest is not stillness. A held overscroll rests with the velocity that it keeps. With rubber band off, a list that has
  * run into its end stands there, and rests in the next frame if its bar shows (its factor is not 0), else once its
  * velocity has decayed. Some lists never rest, so that the limit or a refusal inside ends their run: with a stop_distance
- * of 0 even one that stands still; with a stable_dt of 0 one that coasts or springs back; one with a scroll target while
- * the clock stands at its start or before it, or in its span with a stable_dt of 0. */
+ * of 0 even one that stands still; with a stable_dt of 0 one that coasts or springs back; with an increment of 0 one whose
+ * scroll target is 1 or more away and ends after it starts, where the time is its start or before it, or, with a stable_dt
+ * of 0, inside its span (unless that is all but over). */
 uint32_t strakobud_settle(uint8_t state[STRAKOBUD_STATE_BYTES], const uint8_t *frame, size_t len,
                           const uint8_t run[STRAKOBUD_RUN_BYTES], uint8_t used[STRAKOBUD_USED_BYTES]);
 

@@ -117,15 +117,17 @@ module _ (increment : Float) (bytes : List ℕ) (whole : length bytes ≡ 416) w
     own-option : (isApart n && isApart (rowNo n .option)) ≡ true
     own-option = and-left (isApart n && isApart (rowNo n .option)) _ to-start
 
+    apart : isApart n ≡ true
+    apart = and-left (isApart n) _ own-option
+
     own : wordNo (advanced increment bytes) n ≡ wordNo bytes n
-    own = same-word increment bytes whole n (and-left (isApart n) _ own-option)
+    own = same-word increment bytes whole n apart
 
     option : wordNo (advanced increment bytes) (rowNo n .option) ≡ wordNo bytes (rowNo n .option)
     option = same-word increment bytes whole (rowNo n .option) (and-right (isApart n) _ own-option)
 
     number : numberNo (advanced increment bytes) n ≡ numberNo bytes n
-    unfolding numberNo
-    number = ap (ofBits binary32) own
+    number = same-number increment bytes whole n apart
 
     start : numberNo (advanced increment bytes) (rowNo n .start) ≡ numberNo bytes (rowNo n .start)
     start = same-number increment bytes whole (rowNo n .start) (and-right (isApart n && isApart (rowNo n .option)) _ to-start)
