@@ -1,7 +1,9 @@
 pub mod TestLaws
 pub mod PairLaws
 pub mod SweepLaws
+pub mod WalkLaws
 pub mod InfinityLaws
+pub mod MarkLaws
 pub mod OrderLaws
 pub mod CallLaws
 pub mod FollowLaws

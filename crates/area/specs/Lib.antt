@@ -7,6 +7,7 @@ pub mod Layout
 pub mod Frame
 pub mod Checks
 pub mod Sweep
+pub mod Marks
 pub mod Geometry
 pub mod AxisPhysics
 pub mod Space

@@ -7,10 +7,7 @@ use crate::state::MaybeTarget;
 use crate::state::OffsetTarget;
 use crate::state::StartOffset;
 use crate::state::State;
-use crate::sweep::content;
-use crate::sweep::host;
-use crate::sweep::settings;
-use crate::sweep::style;
+use crate::sweep::sweep_words;
 use numbers::is_finite;
 use numbers::is_finite_f64;
 
@@ -26,15 +23,12 @@ pub fn refusal_of(frame: &[u8], state: State) -> u32
     number
 }
 
-// The lowest of 1 to 5 that applies, or 0, by one walk over the words.
+// The lowest of 1 to 5 that applies, or 0: what the walk over all words keeps.
 pub fn frame_refusal(frame: &[u8]) -> u32
     ensures { λ r. ⌜ r ≡ Spec.frameRefusal (now (frame .entry)) ⌝ }
 {
-    let whole = frame.len() == 416;
-    if !whole {
-        return 1;
-    }
-    content(host(style(settings(0, frame), frame), frame), frame)
+    let swept = sweep_words(frame, 104);
+    swept.kept
 }
 
 // Check 6.

@@ -1,359 +1,345 @@
-// Checks 2 to 5 in one walk over the words of a frame, in order. Each function takes the lowest number that the words so far show, or 0,
-// and hands on the lowest with its own words. The word numbers stand in the code, so that all of it folds into loads and tests.
+// Checks 2 to 5 in one walk over the words of a frame: each is read once, in order, and counted, and the lowest number that they show is
+// kept. What a later word needs of an earlier one is carried along: an option's flag, the start of a range, both mins of a rectangle, the
+// time's low word. The word numbers stand in the code, so that all of it folds into loads and tests.
 ghost use mathlib.Core.Path.{_≡_};
-ghost use mathlib.Core.Bool.{cond, _&&_};
 ghost use mathlib.Core.List.{[], _∷_};
-ghost use Prim.Native.Nat.{_≤_, _<_, _+_};
+ghost use Prim.Native.Nat.{_+_};
 ghost use lib.ListN.{length};
-ghost use lib.Ieee.{binary32, ofBits, ne};
-ghost use Rattle.axis.specs.Limits.{exceedsLimit};
-ghost use Rattle.area.specs.Checks.{infinity};
 ghost use Rattle.area.specs.Layout as At;
+ghost use Rattle.area.specs.Marks as Marks;
 ghost use Rattle.area.specs.Sweep as Spec;
-use crate::decode::flag_at;
-use crate::decode::number_at;
-use crate::decode::time_at;
 use crate::decode::word_at;
-use axis::is_decay_time_outside;
-use axis::word_exceeds_limit;
-use numbers::is_word_negative;
+use crate::marks::decay_time;
+use crate::marks::end_of;
+use crate::marks::factor;
+use crate::marks::flag;
+use crate::marks::kind;
+use crate::marks::plain;
+use crate::marks::points_per_second;
+use crate::marks::size;
+use crate::marks::size_or_infinity;
+use crate::marks::stop_distance;
+use crate::marks::with_number;
+use numbers::f64_of_bits;
 
-// ---- the lowest number
-
-// The lower of two numbers, of which 0 is none.
-fn lower_of(low: u32, k: u32) -> u32
-    ensures { λ r. ⌜ r ≡ Spec.lowerOf low k ⌝ }
-{
-    let shows_none = k == 0;
-    if shows_none {
-        return low;
-    }
-    let is_first = low == 0;
-    if is_first {
-        return k;
-    }
-    let is_lower = k < low;
-    if is_lower {
-        return k;
-    }
-    low
+// The walk after some words: how many they are, and the number kept.
+pub struct Swept {
+    pub count: u32,
+    pub kept: u32,
 }
 
-// With the word of a number: 3 if it exceeds its limit, else k if it is outside what else is asked of it.
-fn with_number(low: u32, exceeds: bool, outside: bool, k: u32) -> u32
-    ensures { λ r. ⌜ r ≡ Spec.lowerOf low (cond exceeds 3 (cond outside k 0)) ⌝ }
-{
-    if exceeds {
-        return lower_of(low, 3);
-    }
-    if outside {
-        return lower_of(low, k);
-    }
-    low
-}
-
-// Where +infinity, 0x7f800000, may stand.
-fn exceeds_unless_infinity(word: u32) -> bool
-    ensures { λ r. ⌜ r ≡ (exceedsLimit (ofBits binary32 word) && ne (ofBits binary32 word) infinity) ⌝ }
-{
-    word_exceeds_limit(word) & (word != 2139095040)
-}
-
-// ---- one word
-
-fn kind(low: u32, s: &[u8], n: u32, most: u32) -> u32
-    requires { ⌜ Spec.Within (now s) n 104 ⌝ }
-    ensures { λ r. ⌜ r ≡ Spec.lowerOf low (Spec.shownBy (At.kind most) (now (s .entry)) n) ⌝ }
-{
-    let is_outside = most < word_at(s, n);
-    if is_outside {
-        return lower_of(low, 2);
-    }
-    low
-}
-
-fn flag(low: u32, s: &[u8], n: u32) -> u32
-    requires { ⌜ Spec.Within (now s) n 104 ⌝ }
-    ensures { λ r. ⌜ r ≡ Spec.lowerOf low (Spec.shownBy At.flag (now (s .entry)) n) ⌝ }
-{
-    kind(low, s, n, 1)
-}
-
-fn plain(low: u32, s: &[u8], n: u32) -> u32
-    requires { ⌜ Spec.Within (now s) n 104 ⌝ }
-    ensures { λ r. ⌜ r ≡ Spec.lowerOf low (Spec.shownBy At.plain (now (s .entry)) n) ⌝ }
-{
-    let word = word_at(s, n);
-    with_number(low, word_exceeds_limit(word), false, 0)
-}
-
-fn size(low: u32, s: &[u8], n: u32) -> u32
-    requires { ⌜ Spec.Within (now s) n 104 ⌝ }
-    ensures { λ r. ⌜ r ≡ Spec.lowerOf low (Spec.shownBy At.size (now (s .entry)) n) ⌝ }
-{
-    let word = word_at(s, n);
-    with_number(low, word_exceeds_limit(word), is_word_negative(word), 4)
-}
-
-fn size_or_infinity(low: u32, s: &[u8], n: u32) -> u32
-    requires { ⌜ Spec.Within (now s) n 104 ⌝ }
-    ensures { λ r. ⌜ r ≡ Spec.lowerOf low (Spec.shownBy At.sizeOrInfinity (now (s .entry)) n) ⌝ }
-{
-    let word = word_at(s, n);
-    with_number(
-        low,
-        exceeds_unless_infinity(word),
-        is_word_negative(word),
-        4,
-    )
-}
-
-fn factor(low: u32, s: &[u8], n: u32) -> u32
-    requires { ⌜ Spec.Within (now s) n 104 ⌝ }
-    ensures { λ r. ⌜ r ≡ Spec.lowerOf low (Spec.shownBy At.factor (now (s .entry)) n) ⌝ }
-{
-    let x = number_at(s, n);
-    with_number(
-        low,
-        word_exceeds_limit(word_at(s, n)),
-        !((0.0 <= x) & (x <= 1.0)),
-        4,
-    )
-}
-
-// The end of what starts at another word.
-fn end_of(low: u32, s: &[u8], n: u32, start: u32) -> u32
-    requires { ⌜ Spec.Within (now s) n 104 × (0 < start) × (start ≤ 104) ⌝ }
-    ensures { λ r. ⌜ r ≡ Spec.lowerOf low (Spec.shownBy (At.endOf start) (now (s .entry)) n) ⌝ }
-{
-    let x = number_at(s, n);
-    with_number(
-        low,
-        word_exceeds_limit(word_at(s, n)),
-        x < number_at(s, start),
-        4,
-    )
-}
-
-fn points_per_second(low: u32, s: &[u8], n: u32) -> u32
-    requires { ⌜ Spec.Within (now s) n 104 ⌝ }
-    ensures { λ r. ⌜ r ≡ Spec.lowerOf low (Spec.shownBy At.pointsPerSecond (now (s .entry)) n) ⌝ }
-{
-    let x = number_at(s, n);
-    with_number(low, exceeds_unless_infinity(word_at(s, n)), !(0.0 < x), 5)
-}
-
-fn decay_time(low: u32, s: &[u8], n: u32) -> u32
-    requires { ⌜ Spec.Within (now s) n 104 ⌝ }
-    ensures { λ r. ⌜ r ≡ Spec.lowerOf low (Spec.shownBy (At.bounded At.number At.decayTime) (now (s .entry)) n) ⌝ }
-{
-    let x = number_at(s, n);
-    with_number(
-        low,
-        word_exceeds_limit(word_at(s, n)),
-        is_decay_time_outside(x),
-        5,
-    )
-}
-
-fn stop_distance(low: u32, s: &[u8], n: u32) -> u32
-    requires { ⌜ Spec.Within (now s) n 104 ⌝ }
-    ensures { λ r. ⌜ r ≡ Spec.lowerOf low (Spec.shownBy (At.bounded At.number At.stopDistance) (now (s .entry)) n) ⌝ }
-{
-    let word = word_at(s, n);
-    with_number(low, word_exceeds_limit(word), is_word_negative(word), 5)
+// The same on the way, with the word that showed the number (see marks.rt).
+pub struct Walk {
+    pub count: u32,
+    pub mark: u32,
 }
 
 // ---- a field, by its first word
 
-fn time(low: u32, s: &[u8], n: u32) -> u32
-    requires { ⌜ Spec.Within (now s) n 103 ⌝ }
-    ensures { λ r. ⌜ r ≡ Spec.sweepRows (now (s .entry)) n (At.bounded At.timeLow At.any ∷ At.bounded At.timeHigh At.any ∷ []) low ⌝ }
+// It is judged at its second word.
+fn time(mark: u32, last: u32, s: &[u8], n: u32) -> u32
+    requires { ⌜ Marks.Within (now s) n 103 ⌝ }
+    ensures { λ r. ⌜ r ≡ Marks.sweepRows (now (s .entry)) last n (At.bounded At.timeLow At.any ∷ At.bounded At.timeHigh At.any ∷ []) mark ⌝ }
 {
-    let t = time_at(s, n);
-    with_number(low, !((0.0 <= t) & (t <= 4294967296.0)), false, 0)
+    let low = word_at(s, n);
+    let high = word_at(s, n + 1);
+    let t = f64_of_bits((high as u64) * 4294967296 + (low as u64));
+    with_number(
+        mark,
+        last,
+        n + 1,
+        !((0.0 <= t) & (t <= 4294967296.0)),
+        false,
+        4,
+    )
 }
 
-fn flags(low: u32, s: &[u8], n: u32) -> u32
-    requires { ⌜ Spec.Within (now s) n 103 ⌝ }
-    ensures { λ r. ⌜ r ≡ Spec.sweepRows (now (s .entry)) n (Spec.pairOf At.flag) low ⌝ }
+fn flags(mark: u32, last: u32, s: &[u8], n: u32) -> u32
+    requires { ⌜ Marks.Within (now s) n 103 ⌝ }
+    ensures { λ r. ⌜ r ≡ Marks.sweepRows (now (s .entry)) last n (Marks.pairOf At.flag) mark ⌝ }
 {
-    flag(flag(low, s, n), s, n + 1)
+    let mark = flag(mark, last, n, word_at(s, n));
+    flag(mark, last, n + 1, word_at(s, n + 1))
 }
 
-fn plains(low: u32, s: &[u8], n: u32) -> u32
-    requires { ⌜ Spec.Within (now s) n 103 ⌝ }
-    ensures { λ r. ⌜ r ≡ Spec.sweepRows (now (s .entry)) n (Spec.pairOf At.plain) low ⌝ }
+fn plains(mark: u32, last: u32, s: &[u8], n: u32) -> u32
+    requires { ⌜ Marks.Within (now s) n 103 ⌝ }
+    ensures { λ r. ⌜ r ≡ Marks.sweepRows (now (s .entry)) last n (Marks.pairOf At.plain) mark ⌝ }
 {
-    plain(plain(low, s, n), s, n + 1)
+    let mark = plain(mark, last, n, word_at(s, n));
+    plain(mark, last, n + 1, word_at(s, n + 1))
 }
 
-fn sizes(low: u32, s: &[u8], n: u32) -> u32
-    requires { ⌜ Spec.Within (now s) n 103 ⌝ }
-    ensures { λ r. ⌜ r ≡ Spec.sweepRows (now (s .entry)) n (Spec.pairOf At.size) low ⌝ }
+fn sizes(mark: u32, last: u32, s: &[u8], n: u32) -> u32
+    requires { ⌜ Marks.Within (now s) n 103 ⌝ }
+    ensures { λ r. ⌜ r ≡ Marks.sweepRows (now (s .entry)) last n (Marks.pairOf At.size) mark ⌝ }
 {
-    size(size(low, s, n), s, n + 1)
+    let mark = size(mark, last, n, word_at(s, n));
+    size(mark, last, n + 1, word_at(s, n + 1))
 }
 
-fn factors(low: u32, s: &[u8], n: u32) -> u32
-    requires { ⌜ Spec.Within (now s) n 103 ⌝ }
-    ensures { λ r. ⌜ r ≡ Spec.sweepRows (now (s .entry)) n (Spec.pairOf At.factor) low ⌝ }
+fn factors(mark: u32, last: u32, s: &[u8], n: u32) -> u32
+    requires { ⌜ Marks.Within (now s) n 103 ⌝ }
+    ensures { λ r. ⌜ r ≡ Marks.sweepRows (now (s .entry)) last n (Marks.pairOf At.factor) mark ⌝ }
 {
-    factor(factor(low, s, n), s, n + 1)
+    let mark = factor(mark, last, n, word_at(s, n));
+    factor(mark, last, n + 1, word_at(s, n + 1))
 }
 
-fn rect(low: u32, s: &[u8], n: u32) -> u32
-    requires { ⌜ Spec.Within (now s) n 101 ⌝ }
-    ensures { λ r. ⌜ r ≡ Spec.sweepRows (now (s .entry)) n (At.rectAt n) low ⌝ }
+fn rect(mark: u32, last: u32, s: &[u8], n: u32) -> u32
+    requires { ⌜ Marks.Within (now s) n 101 ⌝ }
+    ensures { λ r. ⌜ r ≡ Marks.sweepRows (now (s .entry)) last n (At.rectAt n) mark ⌝ }
 {
-    let min = plains(low, s, n);
-    end_of(end_of(min, s, n + 2, n), s, n + 3, n + 1)
+    let x = word_at(s, n);
+    let mark = plain(mark, last, n, x);
+    let y = word_at(s, n + 1);
+    let mark = plain(mark, last, n + 1, y);
+    let mark = end_of(mark, last, n + 2, word_at(s, n + 2), x);
+    end_of(mark, last, n + 3, word_at(s, n + 3), y)
 }
 
-fn animation(low: u32, s: &[u8], n: u32) -> u32
-    requires { ⌜ Spec.Within (now s) n 102 ⌝ }
-    ensures { λ r. ⌜ r ≡ Spec.sweepRows (now (s .entry)) n (At.animationAt n) low ⌝ }
+fn range(mark: u32, last: u32, s: &[u8], n: u32) -> u32
+    requires { ⌜ Marks.Within (now s) n 103 ⌝ }
+    ensures { λ r. ⌜ r ≡ Marks.sweepRows (now (s .entry)) last n (Marks.rangeAt n) mark ⌝ }
 {
-    let speed = points_per_second(low, s, n);
-    end_of(plain(speed, s, n + 1), s, n + 2, n + 1)
+    let start = word_at(s, n);
+    let mark = plain(mark, last, n, start);
+    end_of(mark, last, n + 1, word_at(s, n + 1), start)
+}
+
+fn animation(mark: u32, last: u32, s: &[u8], n: u32) -> u32
+    requires { ⌜ Marks.Within (now s) n 102 ⌝ }
+    ensures { λ r. ⌜ r ≡ Marks.sweepRows (now (s .entry)) last n (At.animationAt n) mark ⌝ }
+{
+    let mark = points_per_second(mark, last, n, word_at(s, n));
+    range(mark, last, s, n + 1)
 }
 
 // ---- an option, by its flag: off, its words show nothing
 
-fn maybe_plain(low: u32, s: &[u8], n: u32) -> u32
-    requires { ⌜ Spec.Within (now s) n 103 ⌝ }
-    ensures { λ r. ⌜ r ≡ Spec.sweepRows (now (s .entry)) n (At.flag ∷ At.optionAt n (At.plain ∷ [])) low ⌝ }
+fn maybe_plain(mark: u32, last: u32, s: &[u8], n: u32) -> u32
+    requires { ⌜ Marks.Within (now s) n 103 ⌝ }
+    ensures { λ r. ⌜ r ≡ Marks.sweepRows (now (s .entry)) last n (At.flag ∷ At.optionAt n (At.plain ∷ [])) mark ⌝ }
 {
-    let own = flag(low, s, n);
-    let has_number = flag_at(s, n);
+    let flag_word = word_at(s, n);
+    let own = flag(mark, last, n, flag_word);
+    let has_number = flag_word == 1;
     if has_number {
-        return plain(own, s, n + 1);
+        return plain(own, last, n + 1, word_at(s, n + 1));
     }
     own
 }
 
-fn maybe_plains(low: u32, s: &[u8], n: u32) -> u32
-    requires { ⌜ Spec.Within (now s) n 102 ⌝ }
-    ensures { λ r. ⌜ r ≡ Spec.sweepRows (now (s .entry)) n (At.flag ∷ At.optionAt n (Spec.pairOf At.plain)) low ⌝ }
+fn maybe_plains(mark: u32, last: u32, s: &[u8], n: u32) -> u32
+    requires { ⌜ Marks.Within (now s) n 102 ⌝ }
+    ensures { λ r. ⌜ r ≡ Marks.sweepRows (now (s .entry)) last n (At.flag ∷ At.optionAt n (Marks.pairOf At.plain)) mark ⌝ }
 {
-    let own = flag(low, s, n);
-    let has_pair = flag_at(s, n);
+    let flag_word = word_at(s, n);
+    let own = flag(mark, last, n, flag_word);
+    let has_pair = flag_word == 1;
     if has_pair {
-        return plains(own, s, n + 1);
+        return plains(own, last, s, n + 1);
     }
     own
 }
 
-fn maybe_rect(low: u32, s: &[u8], n: u32) -> u32
-    requires { ⌜ Spec.Within (now s) n 100 ⌝ }
-    ensures { λ r. ⌜ r ≡ Spec.sweepRows (now (s .entry)) n (At.flag ∷ At.optionAt n (At.rectAt (n + 1))) low ⌝ }
+fn maybe_rect(mark: u32, last: u32, s: &[u8], n: u32) -> u32
+    requires { ⌜ Marks.Within (now s) n 100 ⌝ }
+    ensures { λ r. ⌜ r ≡ Marks.sweepRows (now (s .entry)) last n (At.flag ∷ At.optionAt n (At.rectAt (n + 1))) mark ⌝ }
 {
-    let own = flag(low, s, n);
-    let has_rect = flag_at(s, n);
+    let flag_word = word_at(s, n);
+    let own = flag(mark, last, n, flag_word);
+    let has_rect = flag_word == 1;
     if has_rect {
-        return rect(own, s, n + 1);
+        return rect(own, last, s, n + 1);
     }
     own
 }
 
-fn maybe_target(low: u32, s: &[u8], n: u32) -> u32
-    requires { ⌜ Spec.Within (now s) n 98 ⌝ }
-    ensures { λ r. ⌜ r ≡ Spec.sweepRows (now (s .entry)) n (At.targetAt n) low ⌝ }
+fn maybe_target(mark: u32, last: u32, s: &[u8], n: u32) -> u32
+    requires { ⌜ Marks.Within (now s) n 98 ⌝ }
+    ensures { λ r. ⌜ r ≡ Marks.sweepRows (now (s .entry)) last n (At.targetAt n) mark ⌝ }
 {
-    let own = flag(low, s, n);
-    let has_target = flag_at(s, n);
+    let flag_word = word_at(s, n);
+    let own = flag(mark, last, n, flag_word);
+    let has_target = flag_word == 1;
     if has_target {
-        return target(own, s, n);
+        return target(own, last, s, n);
     }
     own
 }
 
 // The words after the flag n: range, align, animation.
-fn target(low: u32, s: &[u8], n: u32) -> u32
-    requires { ⌜ Spec.Within (now s) n 98 ⌝ }
-    ensures { λ r. ⌜ r ≡ Spec.sweepRows (now (s .entry)) (n + 1) (Spec.targetRows n) low ⌝ }
+fn target(mark: u32, last: u32, s: &[u8], n: u32) -> u32
+    requires { ⌜ Marks.Within (now s) n 98 ⌝ }
+    ensures { λ r. ⌜ r ≡ Marks.sweepRows (now (s .entry)) last (n + 1) (Marks.targetRows n) mark ⌝ }
 {
-    let range = end_of(plain(low, s, n + 1), s, n + 2, n + 1);
-    animation(kind(range, s, n + 3, 3), s, n + 4)
+    let mark = range(mark, last, s, n + 1);
+    let mark = kind(mark, last, n + 3, word_at(s, n + 3), 3);
+    animation(mark, last, s, n + 4)
 }
 
 // A bar's response.
-fn bar(low: u32, s: &[u8], n: u32) -> u32
-    requires { ⌜ Spec.Within (now s) n 100 ⌝ }
-    ensures { λ r. ⌜ r ≡ Spec.sweepRows (now (s .entry)) n (At.barAt n) low ⌝ }
+fn bar(mark: u32, last: u32, s: &[u8], n: u32) -> u32
+    requires { ⌜ Marks.Within (now s) n 100 ⌝ }
+    ensures { λ r. ⌜ r ≡ Marks.sweepRows (now (s .entry)) last n (At.barAt n) mark ⌝ }
 {
-    maybe_plains(flags(low, s, n), s, n + 2)
+    let mark = flags(mark, last, s, n);
+    maybe_plains(mark, last, s, n + 2)
 }
 
 // ---- the parts of a frame, field by field as in specs/Layout.antt
 
-pub fn settings(low: u32, s: &[u8]) -> u32
-    requires { ⌜ length (now s) ≡ 416 ⌝ }
-    ensures { λ r. ⌜ r ≡ Spec.sweepFrom (now (s .entry)) 1 26 low ⌝ }
+// The walk after a field of so many words, ignored ones counted too, up to the last.
+fn took(walk: Walk, last: u32, words: u32, mark: u32) -> Walk
+    ensures { λ r. ⌜ r ≡ record { count = Marks.countedOf (walk .count) last words; mark = mark } ⌝ }
 {
-    let low = flags(low, s, 1);
-    let low = flags(low, s, 3);
-    let low = size_or_infinity(low, s, 5);
-    let low = size_or_infinity(low, s, 6);
-    let low = sizes(low, s, 7);
-    let low = kind(low, s, 9, 2);
-    let low = maybe_rect(low, s, 10);
-    let low = maybe_plain(low, s, 15);
-    let low = maybe_plain(low, s, 17);
-    let low = flag(low, s, 19);
-    let low = kind(low, s, 20, 2);
-    let low = flag(low, s, 21);
-    let low = plains(low, s, 22);
-    let low = flags(low, s, 24);
-    flag(low, s, 26)
+    let count = counted(walk.count, last, words);
+    Walk { count, mark }
 }
 
-pub fn style(low: u32, s: &[u8]) -> u32
-    requires { ⌜ length (now s) ≡ 416 ⌝ }
-    ensures { λ r. ⌜ r ≡ Spec.sweepFrom (now (s .entry)) 27 13 low ⌝ }
+fn counted(count: u32, last: u32, words: u32) -> u32
+    ensures { λ r. ⌜ r ≡ Marks.countedOf count last words ⌝ }
 {
-    let low = flag(low, s, 27);
-    let low = sizes(low, s, 28);
-    let low = sizes(low, s, 30);
-    let low = sizes(low, s, 32);
-    let low = plains(low, s, 34);
-    let low = flag(low, s, 36);
-    let low = decay_time(low, s, 37);
-    let low = stop_distance(low, s, 38);
-    flag(low, s, 39)
+    let has_ended = last <= count;
+    if has_ended {
+        return count;
+    }
+    let ends = last - count < words;
+    if ends {
+        return last;
+    }
+    count + words
 }
 
-pub fn host(low: u32, s: &[u8]) -> u32
+fn settings(walk: Walk, last: u32, s: &[u8]) -> Walk
     requires { ⌜ length (now s) ≡ 416 ⌝ }
-    ensures { λ r. ⌜ r ≡ Spec.sweepFrom (now (s .entry)) 40 42 low ⌝ }
+    ensures { λ r. ⌜ r ≡ Marks.walkFrom (now (s .entry)) last 1 26 walk ⌝ }
 {
-    let low = rect(low, s, 40);
-    let low = rect(low, s, 44);
-    let low = flags(low, s, 48);
-    let low = flag(low, s, 50);
-    let low = size(low, s, 51);
-    let low = time(low, s, 52);
-    let low = maybe_plains(low, s, 54);
-    let low = plains(low, s, 57);
-    let low = plains(low, s, 59);
-    let low = flags(low, s, 61);
-    let low = kind(low, s, 63, 4);
-    let low = plains(low, s, 64);
-    let low = factors(low, s, 66);
-    let low = factors(low, s, 68);
-    let low = factors(low, s, 70);
-    let low = bar(low, s, 72);
-    bar(low, s, 77)
+    let walk = took(walk, last, 2, flags(walk.mark, last, s, 1));
+    let walk = took(walk, last, 2, flags(walk.mark, last, s, 3));
+    let walk = took(
+        walk,
+        last,
+        1,
+        size_or_infinity(walk.mark, last, 5, word_at(s, 5)),
+    );
+    let walk = took(
+        walk,
+        last,
+        1,
+        size_or_infinity(walk.mark, last, 6, word_at(s, 6)),
+    );
+    let walk = took(walk, last, 2, sizes(walk.mark, last, s, 7));
+    let walk = took(walk, last, 1, kind(walk.mark, last, 9, word_at(s, 9), 2));
+    let walk = took(walk, last, 5, maybe_rect(walk.mark, last, s, 10));
+    let walk = took(walk, last, 2, maybe_plain(walk.mark, last, s, 15));
+    let walk = took(walk, last, 2, maybe_plain(walk.mark, last, s, 17));
+    let walk = took(walk, last, 1, flag(walk.mark, last, 19, word_at(s, 19)));
+    let walk = took(walk, last, 1, kind(walk.mark, last, 20, word_at(s, 20), 2));
+    let walk = took(walk, last, 1, flag(walk.mark, last, 21, word_at(s, 21)));
+    let walk = took(walk, last, 2, plains(walk.mark, last, s, 22));
+    let walk = took(walk, last, 2, flags(walk.mark, last, s, 24));
+    took(walk, last, 1, flag(walk.mark, last, 26, word_at(s, 26)))
 }
 
-pub fn content(low: u32, s: &[u8]) -> u32
+fn style(walk: Walk, last: u32, s: &[u8]) -> Walk
     requires { ⌜ length (now s) ≡ 416 ⌝ }
-    ensures { λ r. ⌜ r ≡ Spec.sweepFrom (now (s .entry)) 82 23 low ⌝ }
+    ensures { λ r. ⌜ r ≡ Marks.walkFrom (now (s .entry)) last 27 13 walk ⌝ }
 {
-    let low = sizes(low, s, 82);
-    let low = plains(low, s, 84);
-    let low = plains(low, s, 86);
-    let low = animation(low, s, 88);
-    let low = maybe_target(low, s, 91);
-    maybe_target(low, s, 98)
+    let walk = took(walk, last, 1, flag(walk.mark, last, 27, word_at(s, 27)));
+    let walk = took(walk, last, 2, sizes(walk.mark, last, s, 28));
+    let walk = took(walk, last, 2, sizes(walk.mark, last, s, 30));
+    let walk = took(walk, last, 2, sizes(walk.mark, last, s, 32));
+    let walk = took(walk, last, 2, plains(walk.mark, last, s, 34));
+    let walk = took(walk, last, 1, flag(walk.mark, last, 36, word_at(s, 36)));
+    let walk = took(
+        walk,
+        last,
+        1,
+        decay_time(walk.mark, last, 37, word_at(s, 37)),
+    );
+    let walk = took(
+        walk,
+        last,
+        1,
+        stop_distance(walk.mark, last, 38, word_at(s, 38)),
+    );
+    took(walk, last, 1, flag(walk.mark, last, 39, word_at(s, 39)))
+}
+
+fn host(walk: Walk, last: u32, s: &[u8]) -> Walk
+    requires { ⌜ length (now s) ≡ 416 ⌝ }
+    ensures { λ r. ⌜ r ≡ Marks.walkFrom (now (s .entry)) last 40 42 walk ⌝ }
+{
+    let walk = took(walk, last, 4, rect(walk.mark, last, s, 40));
+    let walk = took(walk, last, 4, rect(walk.mark, last, s, 44));
+    let walk = took(walk, last, 2, flags(walk.mark, last, s, 48));
+    let walk = took(walk, last, 1, flag(walk.mark, last, 50, word_at(s, 50)));
+    let walk = took(walk, last, 1, size(walk.mark, last, 51, word_at(s, 51)));
+    let walk = took(walk, last, 2, time(walk.mark, last, s, 52));
+    let walk = took(walk, last, 3, maybe_plains(walk.mark, last, s, 54));
+    let walk = took(walk, last, 2, plains(walk.mark, last, s, 57));
+    let walk = took(walk, last, 2, plains(walk.mark, last, s, 59));
+    let walk = took(walk, last, 2, flags(walk.mark, last, s, 61));
+    let walk = took(walk, last, 1, kind(walk.mark, last, 63, word_at(s, 63), 4));
+    let walk = took(walk, last, 2, plains(walk.mark, last, s, 64));
+    let walk = took(walk, last, 2, factors(walk.mark, last, s, 66));
+    let walk = took(walk, last, 2, factors(walk.mark, last, s, 68));
+    let walk = took(walk, last, 2, factors(walk.mark, last, s, 70));
+    let walk = took(walk, last, 5, bar(walk.mark, last, s, 72));
+    took(walk, last, 5, bar(walk.mark, last, s, 77))
+}
+
+fn content(walk: Walk, last: u32, s: &[u8]) -> Walk
+    requires { ⌜ length (now s) ≡ 416 ⌝ }
+    ensures { λ r. ⌜ r ≡ Marks.walkFrom (now (s .entry)) last 82 23 walk ⌝ }
+{
+    let walk = took(walk, last, 2, sizes(walk.mark, last, s, 82));
+    let walk = took(walk, last, 2, plains(walk.mark, last, s, 84));
+    let walk = took(walk, last, 2, plains(walk.mark, last, s, 86));
+    let walk = took(walk, last, 3, animation(walk.mark, last, s, 88));
+    let walk = took(walk, last, 7, maybe_target(walk.mark, last, s, 91));
+    took(walk, last, 7, maybe_target(walk.mark, last, s, 98))
+}
+
+// ---- the walk
+
+// The first `last` words of a whole frame, or all.
+fn walk_over(s: &[u8], last: u32) -> Walk
+    requires { ⌜ length (now s) ≡ 416 ⌝ }
+    ensures { λ r. ⌜ r ≡ Marks.walkFrom (now (s .entry)) last 1 104 (record { count = 0; mark = 0 }) ⌝ }
+{
+    let walk = Walk { count: 0, mark: 0 };
+    let walk = settings(walk, last, s);
+    let walk = style(walk, last, s);
+    let walk = host(walk, last, s);
+    content(walk, last, s)
+}
+
+// After the first n words of a frame, or all: how many they are, and the number kept.
+pub fn sweep_words(frame: &[u8], n: u32) -> Swept
+    ensures { λ r. ⌜ r ≡ Spec.sweptOf (now (frame .entry)) n ⌝ }
+{
+    let whole = frame.len() == 416;
+    if !whole {
+        return Swept { count: 0, kept: 1 };
+    }
+    let walk = walk_over(frame, n);
+    Swept {
+        count: walk.count,
+        kept: walk.mark / 128,
+    }
+}
+
+// The first word after which the number kept is the frame's refusal of 2 to 5, or 0 where there is none.
+pub fn bad_word(frame: &[u8]) -> u32
+    ensures { λ r. ⌜ r ≡ Spec.badWord (now (frame .entry)) ⌝ }
+{
+    let whole = frame.len() == 416;
+    if !whole {
+        return 0;
+    }
+    let walk = walk_over(frame, 104);
+    walk.mark % 128
 }

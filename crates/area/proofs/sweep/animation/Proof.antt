@@ -1,39 +1,32 @@
+use mathlib.Core.Path.{refl, _∙_}
 use native.Mathlib.Nat.{add-assoc}
 use borrow.Author.Needs.{needs}
-use Rattle.area.specs.Sweep.{sweepRows}
+use Rattle.area.specs.Layout.{pointsPerSecond}
+use Rattle.area.specs.Marks.{sweepRows}
+use Rattle.area.proofs.SweepLaws.{shown-word}
 use Rattle.area.proofs.sweep.animation.Statement.{statement}
 use Rattle.area.proofs.sweep.animation.Tie as tie
+
+word-at-requires : tie.Need-word-at-requires
+word-at-requires c κs = search needs
 
 points-per-second-requires : tie.Need-points-per-second-requires
 points-per-second-requires c κs = search needs
 
-add-plain : tie.Need-add-plain
-add-plain c = search needs
+add-range : tie.Need-add-range
+add-range c = search needs
 
-plain-requires : tie.Need-plain-requires
-plain-requires c κs = search needs
-
-add-end-of : tie.Need-add-end-of
-add-end-of c = search needs
-
-add-end-of-2 : tie.Need-add-end-of-2
-add-end-of-2 c = search needs
-
-end-of-requires : tie.Need-end-of-requires
-end-of-requires c κs = search needs
+range-requires : tie.Need-range-requires
+range-requires c κs = search needs
 
 returns : tie.Need-returns
 unfolding sweepRows
-returns c = simp add-assoc (rw (← c .before .before .points-per-second .ensures, ← c .before .plain .ensures, ← c .end-of .ensures))
+returns c = 
+    let a = c .before .before .before .before .args in
+    c .range .ensures
+    ∙ simp add-assoc (rw (shown-word pointsPerSecond (a .s .now) (a .n) (refl, refl, refl), ← c .before .before .word-at .ensures, ← c .before .points-per-second .ensures))
 
 pub animation-spec : {M : Type 1} → statement M
 animation-spec =
     tie.close
-    (tie.spec
-    points-per-second-requires
-    add-plain
-    plain-requires
-    add-end-of
-    add-end-of-2
-    end-of-requires
-    returns)
+    (tie.spec word-at-requires points-per-second-requires add-range range-requires returns)

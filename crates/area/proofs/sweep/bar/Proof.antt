@@ -1,7 +1,7 @@
 use mathlib.Core.Path.{_∙_}
 use native.Mathlib.Nat.{add-assoc}
 use borrow.Author.Needs.{needs}
-use Rattle.area.specs.Sweep.{sweepRows}
+use Rattle.area.specs.Marks.{sweepRows}
 use Rattle.area.proofs.sweep.bar.Statement.{statement}
 use Rattle.area.proofs.sweep.bar.Tie as tie
 

@@ -1,19 +1,19 @@
-use mathlib.Core.Path.{refl, sym, _∙_}
+use mathlib.Core.Path.{refl}
 use Prim.Native.Nat.{_+_}
 use native.Mathlib.Omega.{arith}
 use borrow.Author.Needs.{needs}
-use Rattle.area.specs.Layout.{plain}
 use Rattle.area.specs.Checks.{isHeeded}
-use Rattle.area.specs.Sweep.{pairOf, sweepRows}
+use Rattle.area.specs.Layout.{plain}
+use Rattle.area.specs.Marks.{sweepRows, pairOf}
 use Rattle.area.proofs.SweepLaws.{with-on, with-off}
 use Rattle.area.proofs.sweep.maybe_plains.Statement.{statement}
 use Rattle.area.proofs.sweep.maybe_plains.Tie as tie
 
+word-at-requires : tie.Need-word-at-requires
+word-at-requires c κs = search needs
+
 flag-requires : tie.Need-flag-requires
 flag-requires c κs = search needs
-
-flag-at-requires : tie.Need-flag-at-requires
-flag-at-requires c κs = search needs
 
 add-plains : tie.Need-add-plains
 add-plains c = search needs
@@ -23,17 +23,16 @@ plains-requires c κs = search needs
 
 returns : tie.Need-returns
 unfolding isHeeded sweepRows
-returns c =
+returns c = 
     let a = c .before .before .before .before .before .args in
-    let on = sym (c .before .before .flag-at .ensures) ∙ c .before .if1 .taken in
-    with-on (a .s .now) (a .n) (pairOf plain) (a .low) _ _ (c .before .before .before .flag .ensures) on refl (c .plains .ensures)
+    with-on (a .s .now) (a .last) (a .n) (pairOf plain) (a .mark) _ _ _ (c .before .before .before .word-at .ensures) (c .before .before .flag .ensures) (c .before .if1 .taken) refl (c .plains .ensures)
 
 returns-2 : tie.Need-returns-2
-returns-2 c =
+returns-2 c = 
     let a = c .before .before .before .before .args in
-    let off = sym (c .before .flag-at .ensures) ∙ c .if1 .left in
-    with-off (a .s .now) (a .n) (pairOf plain) (a .low) _ (c .before .before .flag .ensures) (omega arith) off
+    with-off (a .s .now) (a .last) (a .n) (pairOf plain) (a .mark) _ _ (c .before .before .word-at .ensures) (c .before .flag .ensures) (omega arith) (c .if1 .left)
 
 pub maybe-plains-spec : {M : Type 1} → statement M
 maybe-plains-spec =
-    tie.close (tie.spec flag-requires flag-at-requires add-plains plains-requires returns returns-2)
+    tie.close
+    (tie.spec word-at-requires flag-requires add-plains plains-requires returns returns-2)

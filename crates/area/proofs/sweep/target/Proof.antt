@@ -1,27 +1,27 @@
-use mathlib.Core.Path.{_∙_}
+use mathlib.Core.Path.{refl, _∙_}
+use Prim.Native.Nat.{_+_}
 use native.Mathlib.Nat.{add-assoc}
 use borrow.Author.Needs.{needs}
-use Rattle.area.specs.Sweep.{sweepRows}
+use Rattle.area.specs.Layout.{kind}
+use Rattle.area.specs.Marks.{sweepRows}
+use Rattle.area.proofs.SweepLaws.{shown-word}
 use Rattle.area.proofs.sweep.target.Statement.{statement}
 use Rattle.area.proofs.sweep.target.Tie as tie
 
-add-plain : tie.Need-add-plain
-add-plain c = search needs
+add-range : tie.Need-add-range
+add-range c = search needs
 
-plain-requires : tie.Need-plain-requires
-plain-requires c κs = search needs
-
-add-end-of : tie.Need-add-end-of
-add-end-of c = search needs
-
-add-end-of-2 : tie.Need-add-end-of-2
-add-end-of-2 c = search needs
-
-end-of-requires : tie.Need-end-of-requires
-end-of-requires c κs = search needs
+range-requires : tie.Need-range-requires
+range-requires c κs = search needs
 
 add-kind : tie.Need-add-kind
 add-kind c = search needs
+
+add-word-at : tie.Need-add-word-at
+add-word-at c = search needs
+
+word-at-requires : tie.Need-word-at-requires
+word-at-requires c κs = search needs
 
 kind-requires : tie.Need-kind-requires
 kind-requires c κs = search needs
@@ -34,20 +34,20 @@ animation-requires c κs = search needs
 
 returns : tie.Need-returns
 unfolding sweepRows
-returns c =
+returns c = 
+    let a = c .before .before .before .before .before .args in
     c .animation .ensures
-    ∙ simp add-assoc (rw (← c .before .before .before .plain .ensures, ← c .before .before .end-of .ensures, ← c .before .kind .ensures))
+    ∙ rw (c .before .kind .ensures, c .before .before .word-at .ensures, c .before .before .before .range .ensures) (simp add-assoc (rw (shown-word (kind 3) (a .s .now) (a .n + 3) (refl, refl, refl))))
 
 pub target-spec : {M : Type 1} → statement M
 target-spec =
     tie.close
     (tie.spec
-    add-plain
-    plain-requires
-    add-end-of
-    add-end-of-2
-    end-of-requires
+    add-range
+    range-requires
     add-kind
+    add-word-at
+    word-at-requires
     kind-requires
     add-animation
     animation-requires
