@@ -1,4 +1,4 @@
-//! How often each branch of `begin`, `end`, exp, a table's load and a run is met; without the feature `branches` nothing is counted.
+//! How often each branch of `begin`, `end`, exp, a table's load, a run and a bad word is met; without the feature `branches` nothing is counted.
 
 macro_rules! branches {
     ($($branch:ident $words:literal)*) => {
@@ -103,6 +103,16 @@ branches! {
     OnlyWord87 "run refused by word 87 alone: 9"
     OnlyWord91 "run refused by word 91 alone: 9"
     OnlyWord98 "run refused by word 98 alone: 9"
+    Kept2 "bad word: 2 is kept first, and to the end"
+    Kept3 "bad word: 3 is kept first, and to the end"
+    Kept4 "bad word: 4 is kept first, and to the end"
+    Kept5 "bad word: 5 is kept first, and to the end"
+    Lowered3To2 "bad word: 3 is kept first, 2 in the end"
+    Lowered4To2 "bad word: 4 is kept first, 2 in the end"
+    Lowered4To3 "bad word: 4 is kept first, 3 in the end"
+    Lowered5To2 "bad word: 5 is kept first, 2 in the end"
+    Lowered5To3 "bad word: 5 is kept first, 3 in the end"
+    Lowered5To4 "bad word: 5 is kept first, 4 in the end"
 }
 
 /// Those that frames without a table cannot meet.
@@ -121,6 +131,9 @@ pub const OF_RUNS: &[(Branch, &str)] = {
     let (up_to_last, _) = BRANCHES.split_at(Branch::OnlyWord98 as usize + 1);
     up_to_last.split_at(Branch::RunRests as usize).1
 };
+
+/// Those that a bad word alone can meet, to the end of the list.
+pub const OF_BAD_WORDS: &[(Branch, &str)] = BRANCHES.split_at(Branch::Kept2 as usize).1;
 
 #[cfg(feature = "branches")]
 mod counts {

@@ -2,7 +2,7 @@
 
 use crate::frame::Fields;
 use crate::frame_begin::begin;
-use crate::frame_checks::{frame_refusal, LENGTH};
+use crate::frame_checks::{frame_refusal, parts};
 use crate::frame_end::end;
 use crate::frame_state::State;
 use crate::records::write_output;
@@ -62,9 +62,9 @@ pub fn call_on_checked_frame(state: State, bytes: &[u8]) -> Output {
     }
 }
 
-/// Frames one after another, from a fresh state; a shorter last part is a frame too.
+/// Frames one after another, from a fresh state.
 pub fn run(bytes: &[u8]) -> impl Iterator<Item = Output> + '_ {
-    bytes.chunks(LENGTH).scan(State::default(), |state, frame| {
+    parts(bytes).scan(State::default(), |state, frame| {
         let output = frame_call(*state, frame);
         *state = output.state;
         Some(output)

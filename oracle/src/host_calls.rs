@@ -4,7 +4,7 @@
 
 use crate::axis_calls;
 use crate::frame_call::call_on_checked_frame;
-use crate::frame_checks::frame_refusal;
+use crate::frame_checks::{self, frame_refusal};
 use crate::frame_state::State;
 use crate::records::{read_state, write_output, write_state, OutBytes, Reader, StateBytes, Writer};
 use crate::scroll_physics::{scroll_bounds, WheelScroll};
@@ -40,6 +40,11 @@ pub fn frame_by(
     out: &mut OutBytes,
 ) -> u32 {
     tables::under(table, || frame(state, bytes, out))
+}
+
+/// The word that decides the frame's refusal of 2 to 5, or 0.
+pub fn bad_word(frame: &[u8]) -> u32 {
+    frame_checks::bad_word(frame)
 }
 
 /// A settling run's increment, low word first, and its limit.

@@ -176,12 +176,13 @@ fn coasts_meet_every_number_of_halvings_and_springs_need_none() {
     }
 }
 
-/// That each branch but those of tables and runs is met so often in a list of scenes; a frame counts when it is made and when it is run.
+/// That each branch but those of tables, runs and bad words is met so often in a list of scenes; a frame counts when it is made and when it is run.
 #[cfg(feature = "branches")]
 fn assert_every_branch_is_met(seed: u64, count: usize, least: u64) {
-    use oracle::branches::{count_of, BRANCHES, OF_RUNS, OF_TABLES};
+    use oracle::branches::{count_of, BRANCHES, OF_BAD_WORDS, OF_RUNS, OF_TABLES};
     played(seed, count);
-    let is_of_frames = |named: &&(_, _)| !OF_TABLES.contains(&named.0) && !OF_RUNS.contains(named);
+    let others = [OF_RUNS, OF_BAD_WORDS].concat();
+    let is_of_frames = |named: &&(_, _)| !OF_TABLES.contains(&named.0) && !others.contains(named);
     for (branch, words) in BRANCHES.iter().filter(is_of_frames) {
         let met = count_of(*branch) / 2;
         assert!(met >= least, "{words}: {met}");
