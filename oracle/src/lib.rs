@@ -25,6 +25,7 @@ pub mod run_vectors;
 pub mod scenes;
 pub mod scroll_physics;
 pub mod settling_run;
+pub mod streams;
 pub mod table_vectors;
 pub mod tables;
 pub mod words;

@@ -2,10 +2,10 @@
 //!
 //! `frames [TABLE]` prints document 01's listing, `frames full [TABLE]` every output; a table that is refused prints its number alone.
 
-use std::io::{self, Read, Write};
 use std::{env, fs, process};
 
 use oracle::frame_call::{run, Output};
+use oracle::streams::{print, read_input};
 use oracle::tables::{kept, load, under, Table};
 
 fn main() {
@@ -36,14 +36,7 @@ fn table(file: &str) -> Result<&'static Table, u32> {
 
 /// The lines of the frames on standard input.
 fn listing(table: Option<&'static Table>, line: fn(&Output) -> String) -> String {
-    let mut bytes = Vec::new();
-    let mut input = io::stdin().lock();
-    input.read_to_end(&mut bytes).expect("the frames are read");
+    let bytes = read_input();
     let lines = || run(&bytes).map(|output| line(&output)).collect();
     under(table, lines)
-}
-
-fn print(lines: &str) {
-    let written = io::stdout().lock().write_all(lines.as_bytes());
-    written.expect("the listing is written");
 }
