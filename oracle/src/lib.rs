@@ -26,6 +26,7 @@ pub mod scenes;
 pub mod scroll_physics;
 pub mod settling_run;
 pub mod streams;
+pub mod sweep_vectors;
 pub mod table_vectors;
 pub mod tables;
 pub mod words;

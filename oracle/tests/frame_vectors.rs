@@ -3,6 +3,7 @@
 mod common;
 
 use common::assert_no_record_repeats;
+use oracle::frame_checks::bad_word;
 use oracle::frame_state::State;
 use oracle::frame_vectors::{bare, fixed_list, full, random_list, Call};
 use oracle::words::from_bytes;
@@ -29,11 +30,24 @@ fn the_first_record_is_the_bare_frame_with_a_fresh_state() {
     assert_eq!(words[107..], State::default().record());
 }
 
+/// A bad word is there where the refusal is one of 2 to 5, and only there.
 #[test]
-fn every_line_is_one_digit() {
+fn every_line_is_the_refusal_and_the_bad_word() {
     for call in fixed_list().iter().chain(&random_list(1, 1000)) {
-        assert_eq!(call.output_line(), format!("{}\n", call.refusal()));
-        assert_eq!(call.output_line().len(), 2);
+        let (refusal, word) = (call.refusal(), bad_word(call.frame()));
+        assert_eq!(call.output_line(), format!("{refusal} {word}\n"));
+        assert_eq!((1..=104).contains(&word), (2..=5).contains(&refusal));
+        assert!(word <= 104);
+    }
+}
+
+/// The low word of a time shows nothing by itself.
+#[test]
+fn every_word_but_52_is_a_bad_one() {
+    let list = fixed_list();
+    let met: Vec<u32> = list.iter().map(|call| bad_word(call.frame())).collect();
+    for word in 0..=104 {
+        assert_eq!(met.contains(&word), word != 52, "{word}");
     }
 }
 

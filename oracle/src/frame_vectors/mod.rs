@@ -17,13 +17,14 @@ mod states;
 
 use std::collections::HashSet;
 
-use crate::frame_checks::frame_refusal;
+use crate::frame_checks::{bad_word, frame_refusal};
 use crate::frame_state::State;
 use crate::words::in_bytes;
 
 pub use fixed::fixed_list;
 pub use frame::Frame;
 pub use good::{bare, example, full};
+pub(crate) use random::good_frame;
 pub use random::{random_list, random_state};
 
 /// How many bytes of a frame a record stores.
@@ -43,6 +44,11 @@ impl Call {
         Call { frame, state }
     }
 
+    /// The frame's bytes.
+    pub fn frame(&self) -> &[u8] {
+        &self.frame
+    }
+
     /// The lowest number of checks 1 to 6 that applies, or 0.
     pub fn refusal(&self) -> u32 {
         match frame_refusal(&self.frame) {
@@ -59,9 +65,9 @@ impl Call {
         [length, stored, in_bytes(&self.state.record())].concat()
     }
 
-    /// The line that answers: the refusal.
+    /// The line that answers: the refusal, and the frame's bad word.
     pub fn output_line(&self) -> String {
-        format!("{}\n", self.refusal())
+        format!("{} {}\n", self.refusal(), bad_word(&self.frame))
     }
 }
 

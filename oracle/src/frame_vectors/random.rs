@@ -28,7 +28,7 @@ fn random_call(random: &mut Random) -> Call {
 }
 
 /// A good frame, in most cases with some options on and others off; half of those off hold garbage.
-fn good_frame(random: &mut Random) -> Frame {
+pub(crate) fn good_frame(random: &mut Random) -> Frame {
     match random.below(8) {
         0 => return bare(),
         1 => return full(),
