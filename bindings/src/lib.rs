@@ -26,6 +26,7 @@ mod c {
             table: *const u8,
             out: *mut u8,
         ) -> u32;
+        pub fn strakobud_bad_word(frame: *const u8, len: usize) -> u32;
         pub fn strakobud_settle(
             state: *mut u8,
             frame: *const u8,
@@ -70,6 +71,10 @@ pub fn frame_by(
 ) -> u32 {
     let (bytes, len, table) = (frame.as_ptr(), frame.len(), table.as_ptr());
     unsafe { c::strakobud_frame_by(state.as_mut_ptr(), bytes, len, table, out.as_mut_ptr()) }
+}
+
+pub fn bad_word(frame: &[u8]) -> u32 {
+    unsafe { c::strakobud_bad_word(frame.as_ptr(), frame.len()) }
 }
 
 pub fn settle(state: &mut StateBytes, frame: &[u8], run: &RunBytes, used: &mut UsedBytes) -> u32 {

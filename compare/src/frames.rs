@@ -25,6 +25,7 @@ pub struct Side {
     offset: [u8; 8],
     pub refusal: u32,
     offset_refusal: u32,
+    bad_word: u32,
 }
 
 impl Side {
@@ -35,6 +36,7 @@ impl Side {
             offset: [UNWRITTEN; 8],
             refusal: 0,
             offset_refusal: 0,
+            bad_word: 0,
         }
     }
 
@@ -45,6 +47,7 @@ impl Side {
             Some(lent) => strakobud::frame_by(state, frame, &lent.bytes, out),
         };
         self.offset_refusal = strakobud::offset(&self.state, &mut self.offset);
+        self.bad_word = strakobud::bad_word(frame);
         self
     }
 
@@ -55,6 +58,7 @@ impl Side {
             Some(lent) => host_calls::frame_by(state, frame, lent.entries, out),
         };
         self.offset_refusal = host_calls::offset(&self.state, &mut self.offset);
+        self.bad_word = host_calls::bad_word(frame);
         self
     }
 }

@@ -1,9 +1,11 @@
 //! Runs the library and the oracle on the same bytes, in one process, and compares every byte left.
 //!
-//! `compare SEED FRAMES STATES CALLS UNDER RUNS`: frames of scenes from fresh states, frames on arbitrary states, axis calls; then, each that
-//! often, frames of both kinds and steps under tables and with T lent, and a tenth as many loads; then settling runs, each by T, with T lent
-//! and under tables. It fails where the two sides differ, and where the runs leave out an end or a ground that a run can have.
+//! `compare SEED FRAMES STATES CALLS UNDER RUNS`: frames of scenes from fresh states, frames on arbitrary states, axis calls and, that often
+//! too, bad words; then, each that often, frames of both kinds and steps under tables and with T lent, and a tenth as many loads; then settling
+//! runs, each by T, with T lent and under tables. It fails where the two sides differ, where the runs leave out an end or a ground that a run
+//! can have, and where the bad words leave out a number that is kept first or one that lowers it.
 
+mod bad_words;
 mod calls;
 mod frames;
 mod runs;
@@ -14,7 +16,7 @@ mod tally;
 use std::{env, process};
 
 use tables::Pool;
-use tally::Tally;
+use tally::{has_every_branch_of_bad_words, Tally};
 
 fn main() {
     let arguments: Vec<String> = env::args().skip(1).collect();
@@ -27,13 +29,16 @@ fn main() {
     frames::from_fresh_states(&mut tally, None, *seed, *frames);
     frames::from_arbitrary_states(&mut tally, None, *seed, *states);
     calls::axis_calls(&mut tally, *seed, *calls);
+    bad_words::of_frames(&mut tally, *seed, *calls);
     let pool = Pool::new(&mut tally, *seed);
     under_tables(&mut tally, &pool, *seed, *under);
     runs::by_t(&mut tally, &pool.t, *seed, *runs);
     runs::under_tables(&mut tally, &pool, *seed, *runs);
     tally.print();
-    let is_whole = *runs == 0 || tally.has_every_end_of_runs();
-    process::exit(i32::from(tally.different > 0 || !is_whole));
+    let are_runs_whole = *runs == 0 || tally.has_every_end_of_runs();
+    let are_bad_words_whole = *calls == 0 || has_every_branch_of_bad_words();
+    let is_good = tally.different == 0 && are_runs_whole && are_bad_words_whole;
+    process::exit(i32::from(!is_good));
 }
 
 fn under_tables(tally: &mut Tally, pool: &Pool, seed: u64, count: u64) {

@@ -4,6 +4,7 @@ use oracle::random::Random;
 use oracle::run_vectors::{arbitrary_calls, fixed_calls, fixed_runs, on_any_record, scene_calls};
 use oracle::run_vectors::{Call, Left, Run};
 
+use crate::bad_words;
 use crate::frames::made;
 use crate::tables::{name_of, Lent, Pool, Serving};
 use crate::tally::{End, Part, Tally};
@@ -76,6 +77,7 @@ pub fn by_t(tally: &mut Tally, t: &Lent, seed: u64, count: u64) {
     let mut done = 0;
     for list in lists(seed, count) {
         for run in &list {
+            bad_words::compare(tally, &run.frame);
             let none = compare(tally, Part::Runs, run, None);
             let lent = library(run, Some(t));
             tally.count(Part::RunsTLent, end(run, &none), lent == none, || {

@@ -4,7 +4,7 @@ use std::collections::BTreeMap;
 use std::fmt::{self, Display, Formatter};
 use std::io::{self, Write};
 
-use oracle::branches::{self, count_of, BRANCHES};
+use oracle::branches::{self, count_of, Branch, BRANCHES};
 
 /// Differences that are shown in full.
 const SHOWN: u64 = 5;
@@ -90,6 +90,7 @@ pub enum Part {
     Fresh,
     Arbitrary,
     Axis,
+    BadWords,
     Loads,
     FreshUnder,
     ArbitraryUnder,
@@ -101,10 +102,11 @@ pub enum Part {
 }
 
 impl Part {
-    const ALL: [Part; 11] = [
+    const ALL: [Part; 12] = [
         Part::Fresh,
         Part::Arbitrary,
         Part::Axis,
+        Part::BadWords,
         Part::Loads,
         Part::FreshUnder,
         Part::ArbitraryUnder,
@@ -120,6 +122,7 @@ impl Part {
             Part::Fresh => "frames from fresh states",
             Part::Arbitrary => "frames on arbitrary states",
             Part::Axis => "axis calls",
+            Part::BadWords => "bad words of frames by themselves, and of runs",
             Part::Loads => "loads of tables",
             Part::FreshUnder => "frames from fresh states, under tables",
             Part::ArbitraryUnder => "frames on arbitrary states, under tables",
@@ -187,13 +190,26 @@ impl Tally {
             let unmet = OF_RUNS.iter().filter(|end| !ends.contains_key(end));
             missing.extend(unmet.map(|end| format!("{}: {end}", part.name())));
         }
-        let unmet = branches::OF_RUNS
-            .iter()
-            .filter(|named| count_of(named.0) == 0);
-        missing.extend(unmet.map(|(_, words)| (*words).to_owned()));
-        for name in &missing {
-            println!("not met: {name}");
-        }
-        missing.is_empty()
+        missing.extend(unmet_of(branches::OF_RUNS));
+        are_none(&missing)
     }
+}
+
+/// Whether each of 2 to 5 was kept first and to the end, and lowered by each below it; says which is missing.
+pub fn has_every_branch_of_bad_words() -> bool {
+    are_none(&unmet_of(branches::OF_BAD_WORDS))
+}
+
+/// Those of the branches that were not met, in words.
+fn unmet_of(branches: &[(Branch, &str)]) -> Vec<String> {
+    let unmet = branches.iter().filter(|named| count_of(named.0) == 0);
+    unmet.map(|(_, words)| (*words).to_owned()).collect()
+}
+
+/// Whether nothing is missing; says what is.
+fn are_none(missing: &[String]) -> bool {
+    for name in missing {
+        println!("not met: {name}");
+    }
+    missing.is_empty()
 }
