@@ -2,7 +2,7 @@
 
 use oracle::frame_state::State;
 use oracle::frame_vectors::{bare, random_state};
-use oracle::host_calls::{drag, frame, fresh, offset, step, wheel};
+use oracle::host_calls::{bad_word, drag, frame, fresh, offset, step, wheel};
 use oracle::random::Random;
 use oracle::records::{read_state, write_state};
 use oracle::words::in_bytes;
@@ -40,6 +40,14 @@ fn a_damaged_state_is_6_in_its_place() {
         assert_eq!(offset(&state, &mut shown), 6);
         assert_eq!(shown, [UNWRITTEN; 8]);
     }
+}
+
+#[test]
+fn a_bad_word_is_that_of_the_frame_alone() {
+    let bad = bare().with_number(38, -1.0).with(101, 9).with(63, 5);
+    assert_eq!(bad_word(&bad.bytes()), 63);
+    assert_eq!(bad_word(&bad.bytes()[1..]), 0);
+    assert_eq!(bad_word(&bare().bytes()), 0);
 }
 
 /// The axis of the document's readings: bounds 0 to 300, extent 100, rubber band off.
