@@ -24,9 +24,10 @@ and-true false = refl
 -- at most the limit, a pattern is that of a number from 0 to it
 pub fits-limit : (w : ℕ) → leb w 0x4980_0000 ≡ true → (exceedsLimit (ofBits binary32 w) ≡ false) × (lt (ofBits binary32 w) F32.zero ≡ false)
 fits-limit w fits =
-    let l = leb-true w 0x4980_0000 fits in
-    (sym (word-outside w) ∙ le-ltb 0x4980_0000 (w % 2 ^ 31) (omega (arith, l))
-    , sym (word-below-zero w (omega (arith, l))) ∙ ap (λ (b : Bool). b && leb w 0xff80_0000) (le-ltb 0x8000_0000 w (omega (arith, l))))
+    let l = leb-true w 0x4980_0000 fits in (
+      sym (word-outside w) ∙ le-ltb 0x4980_0000 (w % 2 ^ 31) (omega (arith, l)),
+      sym (word-below-zero w (omega (arith, l))) ∙ ap (λ (b : Bool). b && leb w 0xff80_0000) (le-ltb 0x8000_0000 w (omega (arith, l))),
+    )
 
 -- +infinity shows nothing where it may stand
 pub infinite-size : shownOf sizeOrInfinity 0x7f80_0000 0 ≡ 0

@@ -1,6 +1,7 @@
 // The library that a panel links: each call takes and gives bytes, and include/strakobud.h says which.
 mod area_calls;
 mod axis_calls;
+mod check_calls;
 mod read;
 mod settle_calls;
 mod table_calls;
@@ -14,6 +15,7 @@ pub use axis_calls::strakobud_drag;
 pub use axis_calls::strakobud_step;
 pub use axis_calls::strakobud_step_by;
 pub use axis_calls::strakobud_wheel;
+pub use check_calls::strakobud_bad_word;
 pub use settle_calls::strakobud_settle;
 pub use settle_calls::strakobud_settle_by;
 pub use table_calls::strakobud_table_load;

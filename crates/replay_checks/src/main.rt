@@ -1,7 +1,7 @@
-// Runs checks 1 to 6 on stored frames and states and prints each answer. A record on standard input is a word,
-// the frame's length; 424 bytes that begin with the frame; and the state, 37 words in the order of its fields,
-// an f64 as low word and high word, an option as a flag and its words. What is printed is held to the answers
-// of an independent program (oracle/).
+// Runs checks 1 to 6 on stored frames and states and prints each answer, with the word that made the frame bad, or
+// 0. A record on standard input is a word, the frame's length; 424 bytes that begin with the frame; and the state, 37
+// words in the order of its fields, an f64 as low word and high word, an option as a flag and its words. What is
+// printed is held to the answers of an independent program (oracle/).
 mod stored_state;
 
 use libc::STDIN_FILENO;
@@ -14,19 +14,25 @@ fn replay_one() -> bool {
     if io::read_full(STDIN_FILENO, &mut record) < 576 {
         return false;
     }
-    let refusal = refusal_of_record(&record);
-    io::print_decimal(STDOUT_FILENO, refusal as u64);
-    io::write_all(STDOUT_FILENO, b"\n")
+    print_answers(&record)
 }
 
 // A length past the record is a frame of the wrong length too.
-fn refusal_of_record(record: &[u8]) -> u32 {
+fn print_answers(record: &[u8]) -> bool {
     let length = words::word(record, 0) as usize;
     let end = 4 + length;
     if record.len() < end {
-        return 1;
+        return print(1, 0);
     }
-    area::refusal_of(&record[4..end], state_of(record))
+    let refusal = area::refusal_of(&record[4..end], state_of(record));
+    print(refusal, area::bad_word(&record[4..end]))
+}
+
+fn print(refusal: u32, bad_word: u32) -> bool {
+    io::print_decimal(STDOUT_FILENO, refusal as u64);
+    io::write_all(STDOUT_FILENO, b" ");
+    io::print_decimal(STDOUT_FILENO, bad_word as u64);
+    io::write_all(STDOUT_FILENO, b"\n")
 }
 
 // A proved loop has to end, and nothing says that the input does: it counts down from a number that

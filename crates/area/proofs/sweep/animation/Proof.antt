@@ -21,7 +21,7 @@ range-requires c κs = search needs
 
 returns : tie.Need-returns
 unfolding sweepRows
-returns c = 
+returns c =
     let a = c .before .before .before .before .args in
     c .range .ensures
     ∙ simp add-assoc (rw (shown-word pointsPerSecond (a .s .now) (a .n) (refl, refl, refl), ← c .before .before .word-at .ensures, ← c .before .points-per-second .ensures))

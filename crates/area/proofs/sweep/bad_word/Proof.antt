@@ -16,7 +16,7 @@ walk-over-requires c κs = whole-is (c .before .before .args .frame .now) (c .if
 
 returns-2 : tie.Need-returns-2
 unfolding walkFrom wordsUpTo lowestOf
-returns-2 c = 
+returns-2 c =
     let s = c .before .before .before .before .args .frame .now in
     rw (c .before .walk-over .ensures, sweep-is s 104) (word-kept s 104 (omega arith) ∙ bad-word-is s (c .before .before .if1 .left))
 

@@ -27,7 +27,7 @@ factor-requires-2 c κs = search needs
 
 returns : tie.Need-returns
 unfolding sweepRows
-returns c = 
+returns c =
     let a = c .before .before .before .before .before .args in
     rw (shown-word factor (a .s .now) (a .n) (refl, refl, refl), shown-word factor (a .s .now) (a .n + 1) (refl, refl, refl), ← c .before .before .before .word-at .ensures, ← c .before .before .factor .ensures, ← c .before .word-at2 .ensures, ← c .factor2 .ensures)
 

@@ -27,7 +27,7 @@ flag-requires-2 c κs = search needs
 
 returns : tie.Need-returns
 unfolding sweepRows
-returns c = 
+returns c =
     let a = c .before .before .before .before .before .args in
     rw (shown-word flag (a .s .now) (a .n) (refl, refl, refl), shown-word flag (a .s .now) (a .n + 1) (refl, refl, refl), ← c .before .before .before .word-at .ensures, ← c .before .before .flag .ensures, ← c .before .word-at2 .ensures, ← c .flag2 .ensures)
 

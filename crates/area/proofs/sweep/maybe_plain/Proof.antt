@@ -30,12 +30,12 @@ plain-requires c κs = search needs
 
 returns : tie.Need-returns
 unfolding isHeeded sweepRows
-returns c = 
+returns c =
     let a = c .before .before .before .before .before .before .args in
     with-on (a .s .now) (a .last) (a .n) (plain ∷ []) (a .mark) _ _ _ (c .before .before .before .before .word-at .ensures) (c .before .before .before .flag .ensures) (c .before .before .if1 .taken) refl (rw (shown-word plain (a .s .now) (a .n + 1) (refl, refl, refl), ← c .before .word-at2 .ensures, ← c .plain .ensures))
 
 returns-2 : tie.Need-returns-2
-returns-2 c = 
+returns-2 c =
     let a = c .before .before .before .before .args in
     with-off (a .s .now) (a .last) (a .n) (plain ∷ []) (a .mark) _ _ (c .before .before .word-at .ensures) (c .before .flag .ensures) (omega arith) (c .if1 .left)
 

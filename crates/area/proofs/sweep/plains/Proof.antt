@@ -27,7 +27,7 @@ plain-requires-2 c κs = search needs
 
 returns : tie.Need-returns
 unfolding sweepRows
-returns c = 
+returns c =
     let a = c .before .before .before .before .before .args in
     rw (shown-word plain (a .s .now) (a .n) (refl, refl, refl), shown-word plain (a .s .now) (a .n + 1) (refl, refl, refl), ← c .before .before .before .word-at .ensures, ← c .before .before .plain .ensures, ← c .before .word-at2 .ensures, ← c .plain2 .ensures)
 

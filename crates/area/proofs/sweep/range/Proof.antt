@@ -28,7 +28,7 @@ end-of-requires c κs = search needs
 
 returns : tie.Need-returns
 unfolding sweepRows
-returns c = 
+returns c =
     let a = c .before .before .before .before .before .args in
     rw (shown-word plain (a .s .now) (a .n) (refl, refl, refl), shown-end (a .s .now) (a .n + 1) (a .n) (omega arith), ← c .before .before .before .word-at .ensures, ← c .before .before .plain .ensures, ← c .before .word-at2 .ensures, ← c .end-of .ensures)
 

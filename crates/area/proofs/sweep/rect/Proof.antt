@@ -53,7 +53,7 @@ end-of-requires-2 c κs = search needs
 
 returns : tie.Need-returns
 unfolding sweepRows
-returns c = 
+returns c =
     let a = c .before .before .before .before .before .before .before .before .before .args in
     let s = a .s .now in
     let n = a .n in

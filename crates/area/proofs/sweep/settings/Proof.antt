@@ -120,7 +120,7 @@ took-requires-15 c κs = search needs
 
 returns : tie.Need-returns
 unfolding sweepFrom sweepRows rowNo rowAt rows layout
-returns c = 
+returns c =
     let a = c .before .before .before .before .before .before .before .before .before .before .before .before .before .before .before .before .before .before .before .before .before .before .before .before .before .before .before .before .before .before .before .before .before .before .before .before .before .before .args in
     let s = a .s .now in
     let last = a .last in

@@ -27,7 +27,7 @@ size-requires-2 c κs = search needs
 
 returns : tie.Need-returns
 unfolding sweepRows
-returns c = 
+returns c =
     let a = c .before .before .before .before .before .args in
     rw (shown-word size (a .s .now) (a .n) (refl, refl, refl), shown-word size (a .s .now) (a .n + 1) (refl, refl, refl), ← c .before .before .before .word-at .ensures, ← c .before .before .size .ensures, ← c .before .word-at2 .ensures, ← c .size2 .ensures)
 

@@ -13,7 +13,7 @@ walk-over-requires c κs = whole-is (c .before .before .args .frame .now) (c .if
 
 returns-2 : tie.Need-returns-2
 unfolding sweptOf walkFrom
-returns-2 c = 
+returns-2 c =
     let s = c .before .before .before .before .args .frame .now in
     let n = c .before .before .before .before .args .n in
     rw (c .before .before .if1 .left, c .before .walk-over .ensures, counted-is n, sweep-is s n, number-kept s (wordsUpTo n) (up-to n))

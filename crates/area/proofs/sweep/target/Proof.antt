@@ -34,7 +34,7 @@ animation-requires c κs = search needs
 
 returns : tie.Need-returns
 unfolding sweepRows
-returns c = 
+returns c =
     let a = c .before .before .before .before .before .args in
     c .animation .ensures
     ∙ rw (c .before .kind .ensures, c .before .before .word-at .ensures, c .before .before .before .range .ensures) (simp add-assoc (rw (shown-word (kind 3) (a .s .now) (a .n + 3) (refl, refl, refl))))

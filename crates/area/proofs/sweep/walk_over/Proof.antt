@@ -16,7 +16,7 @@ content-requires : tie.Need-content-requires
 content-requires c κs = c .before .before .before .before .pre
 
 returns : tie.Need-returns
-returns c = 
+returns c =
     let s = c .before .before .before .before .before .args .s .now in
     let last = c .before .before .before .before .before .args .last in
     let w : Walk = record { count = 0; mark = 0 } in
