@@ -2,6 +2,8 @@ pub mod TestLaws
 pub mod PairLaws
 pub mod SweepLaws
 pub mod WalkLaws
+pub mod AloneLaws
+pub mod BadWordLaws
 pub mod InfinityLaws
 pub mod MarkLaws
 pub mod OrderLaws

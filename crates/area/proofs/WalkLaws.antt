@@ -1,9 +1,8 @@
--- The walk over the first n words keeps the lowest number that they show, and the word that showed it first; over all of them it tells what
--- checks 2 to 5 tell. Assumes nothing.
+-- The walk over the first n words keeps the lowest number that they show, with the word at which it was kept first; over all of them it tells
+-- what checks 2 to 5 tell. Assumes nothing.
 use mathlib.Core.Path.{_≡_, refl, sym, ap, _∙_, subst}
 use mathlib.Core.Bool.{Bool, true, false, cond, not, _||_}
 use mathlib.Core.List.{List}
-use mathlib.Core.Logic.{_≢_}
 use Prim.Native.Nat.{ℕ, zero, suc, _+_, _*_, _-_, _/_, _%_, _<_, _≤_}
 use native.Mathlib.Nat.{add-zero, zero-add, add-suc, suc-add, add-assoc, sub-zero}
 use native.Mathlib.Omega.{arith}
@@ -14,7 +13,7 @@ use Rattle.area.specs.declared.sweep.Walk.{Walk}
 use Rattle.area.specs.Layout.{Row, rowNo}
 use Rattle.area.specs.Frame.{wordNo}
 use Rattle.area.specs.Checks.{showsNo, anyShows, frameRefusal}
-use Rattle.area.specs.Sweep.{lowestOf, wordsUpTo, sweptOf, firstKeeping, badWord}
+use Rattle.area.specs.Sweep.{lowestOf, wordsUpTo, sweptOf}
 use Rattle.area.specs.Marks.{shownBy, shownOf, keptAt, keptWith, sweepFrom, countedOf, walkFrom}
 use Rattle.area.proofs.TestLaws.{either}
 use Rattle.area.proofs.SweepLaws.{Alone, shown-word}
@@ -22,7 +21,7 @@ use Rattle.area.proofs.SweepLaws.{Alone, shown-word}
 -- ---- the lowest number with one word more
 
 -- the lower of two numbers, of which 0 is none
-unfoldable lowerOf : ℕ → ℕ → ℕ
+unfoldable pub lowerOf : ℕ → ℕ → ℕ
 lowerOf low k = cond (eqb k 0) low (cond (eqb low 0) k (cond (ltb k low) k low))
 
 -- k is not above x
@@ -54,10 +53,10 @@ lowest-step a b c d a′ b′ c′ d′ =
     ∙ ap (cond (c || c′) 4) (lower-cond 5 d d′ 0 0 (refl, refl) (refl, refl) (refl, refl))))
 
 -- what word n shows
-abbrev shownNo : List ℕ → ℕ → ℕ
+abbrev pub shownNo : List ℕ → ℕ → ℕ
 shownNo s n = shownBy (rowNo n) s n
 
-lowest-next : (s : List ℕ) (n : ℕ) → lowerOf (lowestOf s n) (shownNo s (suc n)) ≡ lowestOf s (suc n)
+pub lowest-next : (s : List ℕ) (n : ℕ) → lowerOf (lowestOf s n) (shownNo s (suc n)) ≡ lowestOf s (suc n)
 unfolding lowestOf anyShows showsNo shownBy
 lowest-next s n =
     lowest-step
@@ -72,7 +71,7 @@ since s zero = 0
 since s (suc n) = cond (eqb (lowestOf s (suc n)) (lowestOf s n)) (since s n) (suc n)
 
 -- one number kept and the next: no change, or the first, or lower
-data Change (low low′ : ℕ) : Type 0 where
+pub data Change (low low′ : ℕ) : Type 0 where
   same : low′ ≡ low → Change low low′
   first : low ≡ 0 → 0 < low′ → Change low low′
   lower : low′ < low → 0 < low′ → Change low low′
@@ -87,16 +86,16 @@ change low k = go (eqb k 0) refl (eqb low 0) refl (ltb k low) refl
     go false ep false eq true er = lower (ltb-true k low er) (omega (arith, eqb-false k 0 ep))
     go false ep false eq false er = same refl
 
-next-change : (s : List ℕ) (n : ℕ) → Change (lowestOf s n) (lowestOf s (suc n))
+pub next-change : (s : List ℕ) (n : ℕ) → Change (lowestOf s n) (lowestOf s (suc n))
 next-change s n = subst (Change (lowestOf s n)) (lowest-next s n) (change (lowestOf s n) (shownNo s (suc n)))
 
 -- the word is among those taken; there is none where no number is kept, and one where one is
-since-within : (s : List ℕ) (n : ℕ) → since s n ≤ n
+pub since-within : (s : List ℕ) (n : ℕ) → since s n ≤ n
 since-within s zero = omega arith
 since-within s (suc n) =
     either (λ (w : ℕ). w ≤ suc n) (eqb (lowestOf s (suc n)) (lowestOf s n)) (since s n) (suc n) (omega (arith, since-within s n)) (omega arith)
 
-since-none : (s : List ℕ) (n : ℕ) → lowestOf s n ≡ 0 → since s n ≡ 0
+pub since-none : (s : List ℕ) (n : ℕ) → lowestOf s n ≡ 0 → since s n ≡ 0
 since-none s zero none = refl
 since-none s (suc n) none = go (next-change s n) (since-none s n)
   where
@@ -105,7 +104,7 @@ since-none s (suc n) none = go (next-change s n) (since-none s n)
     go (first e some) before = absurd (omega (arith, none, some))
     go (lower l some) before = absurd (omega (arith, none, some))
 
-since-some : (s : List ℕ) (n : ℕ) → 0 < lowestOf s n → 0 < since s n
+pub since-some : (s : List ℕ) (n : ℕ) → 0 < lowestOf s n → 0 < since s n
 unfolding lowestOf anyShows
 since-some s zero some = absurd (omega (arith, some))
 since-some s (suc n) some = go (eqb (lowestOf s (suc n)) (lowestOf s n)) refl (since-some s n)
@@ -257,6 +256,14 @@ number-kept s n fits = kept-is (lowestOf s n) (since s n) (omega (arith, since-w
 pub word-kept : (s : List ℕ) (n : ℕ) → n ≤ 104 → markAfter s n % 128 ≡ since s n
 word-kept s n fits = word-is (lowestOf s n) (since s n) (omega (arith, since-within s n, fits))
 
+pub up-to-is : (n : ℕ) → n ≤ 104 → wordsUpTo n ≡ n
+unfolding wordsUpTo
+up-to-is n fits = go (ltb n 104) refl
+  where
+    go : (b : Bool) → ltb n 104 ≡ b → cond b n 104 ≡ n
+    go true e = refl
+    go false e = omega (arith, fits, ltb-false n 104 e)
+
 pub up-to : (n : ℕ) → wordsUpTo n ≤ 104
 unfolding wordsUpTo
 up-to n = go (ltb n 104) refl
@@ -272,57 +279,6 @@ whole-is s h = eqb-true (length s) 416 (not-false (eqb (length s) 416) h)
 pub lowest-is : (s : List ℕ) → not (eqb (length s) 416) ≡ false → lowestOf s 104 ≡ frameRefusal s
 unfolding frameRefusal lowestOf
 lowest-is s whole = rw whole
-
--- ---- the bad word
-
--- a number below what is kept after n words, or any where nothing is, was kept after none of them
-not-yet : (s : List ℕ) (k n : ℕ) → 0 < k → (lowestOf s n ≢ 0 → k < lowestOf s n) → firstKeeping s k n ≡ 0
-unfolding firstKeeping
-not-yet s k zero some below = refl
-not-yet s k (suc n) some below = go (next-change s n) (not-yet s k n some)
-  where
-    differs : lowestOf s (suc n) ≡ k → ⊥
-    differs e = omega (arith, some, e, below (λ z. omega (arith, some, e, z)))
-
-    go : Change (lowestOf s n) (lowestOf s (suc n)) → ((lowestOf s n ≢ 0 → k < lowestOf s n) → firstKeeping s k n ≡ 0) → firstKeeping s k (suc n) ≡ 0
-    go (same e) before = rw (before (λ h. subst (λ (l : ℕ). k < l) e (below (λ z. h (sym e ∙ z)))), ne-eqb (lowestOf s (suc n)) k differs)
-    go (first e h) before = rw (before (λ g. absurd (g e)), ne-eqb (lowestOf s (suc n)) k differs)
-    go (lower l h) before = rw (before (λ g. omega (arith, l, below (λ z. omega (arith, h, z)))), ne-eqb (lowestOf s (suc n)) k differs)
-
-since-first : (s : List ℕ) (n : ℕ) → 0 < lowestOf s n → firstKeeping s (lowestOf s n) n ≡ since s n
-unfolding firstKeeping lowestOf anyShows
-since-first s zero some = refl
-since-first s (suc n) some = go (next-change s n) (since-first s n)
-  where
-    changed : (lowestOf s n ≢ 0 → lowestOf s (suc n) < lowestOf s n) → (lowestOf s (suc n) ≡ lowestOf s n → ⊥) → firstKeeping s (lowestOf s (suc n)) (suc n) ≡ since s (suc n)
-    changed below differs =
-        rw (not-yet s (lowestOf s (suc n)) n some below, eq-eqb (lowestOf s (suc n)) (lowestOf s (suc n)) refl, ne-eqb (lowestOf s (suc n)) (lowestOf s n) differs)
-
-    go : Change (lowestOf s n) (lowestOf s (suc n)) → (0 < lowestOf s n → firstKeeping s (lowestOf s n) n ≡ since s n) → firstKeeping s (lowestOf s (suc n)) (suc n) ≡ since s (suc n)
-    go (same e) before =
-        let some-before = subst (λ (l : ℕ). 0 < l) e some in
-        rw (e, before some-before, ne-eqb (since s n) 0 (λ z. omega (arith, z, since-some s n some-before)), eq-eqb (lowestOf s n) (lowestOf s n) refl)
-    go (first e h) before = changed (λ g. absurd (g e)) (λ z. omega (arith, e, h, z))
-    go (lower l h) before = changed (λ g. l) (λ z. omega (arith, l, z))
-
--- a number kept is 2 or more
-two-or-more : (a b c d : Bool) → 0 < cond a 2 (cond b 3 (cond c 4 (cond d 5 0))) → ltb 1 (cond a 2 (cond b 3 (cond c 4 (cond d 5 0)))) ≡ true
-two-or-more true b c d h = refl
-two-or-more false true c d h = refl
-two-or-more false false true d h = refl
-two-or-more false false false true h = refl
-two-or-more false false false false h = absurd (omega (arith, h))
-
-pub bad-word-is : (s : List ℕ) → not (eqb (length s) 416) ≡ false → since s 104 ≡ badWord s
-unfolding badWord lowestOf
-bad-word-is s whole = go (eqb (lowestOf s 104) 0) refl ∙ ap (λ (k : ℕ). cond (ltb 1 k) (firstKeeping s k 104) 0) (lowest-is s whole)
-  where
-    go : (b : Bool) → eqb (lowestOf s 104) 0 ≡ b → since s 104 ≡ cond (ltb 1 (lowestOf s 104)) (firstKeeping s (lowestOf s 104) 104) 0
-    go true e = let none = eqb-true (lowestOf s 104) 0 e in since-none s 104 none ∙ rw none
-    go false e =
-        let some : 0 < lowestOf s 104 = omega (arith, eqb-false (lowestOf s 104) 0 e) in
-        sym (since-first s 104 some)
-        ∙ rw (two-or-more (anyShows 2 s 104) (anyShows 3 s 104) (anyShows 4 s 104) (anyShows 5 s 104) some)
 
 -- ---- of any bytes: the walk over all words keeps the refusal
 pub swept-refusal : (s : List ℕ) → sweptOf s 104 .kept ≡ frameRefusal s

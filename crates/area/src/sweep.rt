@@ -319,7 +319,8 @@ fn walk_over(s: &[u8], last: u32) -> Walk
 
 // After the first n words of a frame, or all: how many they are, and the number kept.
 pub fn sweep_words(frame: &[u8], n: u32) -> Swept
-    ensures { λ r. ⌜ r ≡ Spec.sweptOf (now (frame .entry)) n ⌝ }
+    ensures answers { λ r. ⌜ r ≡ Spec.sweptOf (now (frame .entry)) n ⌝ }
+    ensures holds { λ r. ⌜ Spec.SweepHolds (now (frame .entry)) n r ⌝ }
 {
     let whole = frame.len() == 416;
     if !whole {
@@ -334,7 +335,8 @@ pub fn sweep_words(frame: &[u8], n: u32) -> Swept
 
 // The first word after which the number kept is the frame's refusal of 2 to 5, or 0 where there is none.
 pub fn bad_word(frame: &[u8]) -> u32
-    ensures { λ r. ⌜ r ≡ Spec.badWord (now (frame .entry)) ⌝ }
+    ensures answers { λ r. ⌜ r ≡ Spec.badWord (now (frame .entry)) ⌝ }
+    ensures holds { λ r. ⌜ Spec.BadWordHolds (now (frame .entry)) r ⌝ }
 {
     let whole = frame.len() == 416;
     if !whole {
