@@ -71,10 +71,11 @@ module _ (s t : List ℕ) where
 pub sweep-holds : (s : List ℕ) (n : ℕ) → SweepHolds s n (sweptOf s n)
 unfolding sweptOf
 sweep-holds s n = record {
-    counts = λ whole fits. rw (eq-eqb (length s) 416 whole) (up-to-is n fits);
-    keeps = keeps;
-    alone = λ whole fits t same. keeps whole fits ∙ sym (lowest-alone s t n same);
-    refuses = λ e. ap (λ (m : ℕ). sweptOf s m .kept) e ∙ swept-refusal s }
+  counts = λ whole fits. rw (eq-eqb (length s) 416 whole) (up-to-is n fits);
+  keeps = keeps;
+  alone = λ whole fits t same. keeps whole fits ∙ sym (lowest-alone s t n same);
+  refuses = λ e. ap (λ (m : ℕ). sweptOf s m .kept) e ∙ swept-refusal s;
+}
   where
     keeps : length s ≡ 416 → n ≤ 104 → sweptOf s n .kept ≡ lowestOf s n
     keeps whole fits = rw (eq-eqb (length s) 416 whole) (ap (lowestOf s) (up-to-is n fits))

@@ -117,13 +117,15 @@ not-long s true e h = absurd (omega (arith, subst (λ (b : Bool). 1 < cond b 1 (
 pub bad-word-holds : (s : List ℕ) → BadWordHolds s (badWord s)
 unfolding badWord
 bad-word-holds s = record {
-    none = λ h. ap (λ (b : Bool). cond b (firstKeeping s (frameRefusal s) 104) 0) (le-ltb 1 (frameRefusal s) h);
-    some = λ h. let w = whole h in subst (λ (n : ℕ). (0 < n) × (n ≤ 104)) (bad-word-is s w) (since-some s 104 (kept w h), since-within s 104);
-    shows = λ h. let w = whole h in
-        subst (λ (n : ℕ). showsNo (frameRefusal s) s n ≡ true) (bad-word-is s w)
-        (subst (λ (k : ℕ). showsNo k s (since s 104) ≡ true) (lowest-is s w) (since-shows s 104 (kept w h))) }
+  none = λ h. ap (λ (b : Bool). cond b (firstKeeping s (frameRefusal s) 104) 0) (le-ltb 1 (frameRefusal s) h);
+  some = λ h. let w = whole h in subst (λ (n : ℕ). (0 < n) × (n ≤ 104)) (bad-word-is s w) (since-some s 104 (kept w h), since-within s 104);
+  shows = λ h. let w = whole h in
+      subst (λ (n : ℕ). showsNo (frameRefusal s) s n ≡ true) (bad-word-is s w)
+      (subst (λ (k : ℕ). showsNo k s (since s 104) ≡ true) (lowest-is s w) (since-shows s 104 (kept w h)));
+}
   where
     whole : 1 < frameRefusal s → not (eqb (length s) 416) ≡ false
     whole h = not-long s (not (eqb (length s) 416)) refl h
+
     kept : not (eqb (length s) 416) ≡ false → 1 < frameRefusal s → 0 < lowestOf s 104
     kept w h = omega (arith, h, lowest-is s w)

@@ -36,9 +36,8 @@ shownOf r w start =
 -- the lower of a mark and that of word n, which shows k, in a walk that ends after word `last`
 unfoldable pub keptAt : ℕ → ℕ → ℕ → ℕ → ℕ
 keptAt mark last n k =
-    cond (ltb last n) mark
-    (cond (eqb mark 0) (k * 128 + n)
-    (cond (ltb (k * 128 + n) mark) (k * 128 + n) mark))
+    let own = k * 128 + n in
+    cond (ltb last n) mark (cond (eqb mark 0) own (cond (ltb own mark) own mark))
 
 -- a word that shows 0 leaves the mark
 unfoldable pub keptWith : ℕ → ℕ → ℕ → ℕ → ℕ

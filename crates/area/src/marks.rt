@@ -3,6 +3,7 @@
 ghost use mathlib.Core.Path.{_≡_};
 ghost use mathlib.Core.Bool.{cond};
 ghost use Prim.Native.Nat.{_≤_, _<_};
+ghost use lib.Dec.{eqb, ltb};
 ghost use lib.Ieee.{binary32, ofBits, lt};
 ghost use Rattle.numbers.specs.F32.{zero};
 ghost use Rattle.axis.specs.Limits.{exceedsLimit};
@@ -29,6 +30,12 @@ fn keep(mark: u32, last: u32, n: u32, k: u32) -> u32
     if is_first {
         return own;
     }
+    lower_of(own, mark)
+}
+
+fn lower_of(own: u32, mark: u32) -> u32
+    ensures { λ r. ⌜ r ≡ cond (ltb own mark) own mark ⌝ }
+{
     let is_lower = own < mark;
     if is_lower {
         return own;
@@ -69,6 +76,13 @@ fn not_negative(mark: u32, last: u32, n: u32, word: u32, k: u32) -> u32
     )
 }
 
+// Whether these are the bits of +infinity, 0x7f800000.
+fn is_infinite(word: u32) -> bool
+    ensures { λ r. ⌜ r ≡ eqb word 0x7f80_0000 ⌝ }
+{
+    word == 2139095040
+}
+
 // ---- word n, by its row
 
 pub fn kind(mark: u32, last: u32, n: u32, word: u32, most: u32) -> u32
@@ -103,13 +117,11 @@ pub fn size(mark: u32, last: u32, n: u32, word: u32) -> u32
     not_negative(mark, last, n, word, 4)
 }
 
-// +infinity is 0x7f800000.
 pub fn size_or_infinity(mark: u32, last: u32, n: u32, word: u32) -> u32
     requires { ⌜ n ≤ 104 ⌝ }
     ensures { λ r. ⌜ r ≡ Spec.keptWith mark last n (Spec.shownOf At.sizeOrInfinity word 0) ⌝ }
 {
-    let is_infinite = word == 2139095040;
-    if is_infinite {
+    if is_infinite(word) {
         return mark;
     }
     size(mark, last, n, word)
@@ -150,8 +162,7 @@ pub fn points_per_second(mark: u32, last: u32, n: u32, word: u32) -> u32
     requires { ⌜ n ≤ 104 ⌝ }
     ensures { λ r. ⌜ r ≡ Spec.keptWith mark last n (Spec.shownOf At.pointsPerSecond word 0) ⌝ }
 {
-    let is_infinite = word == 2139095040;
-    if is_infinite {
+    if is_infinite(word) {
         return mark;
     }
     let x = f32_of_bits(word);

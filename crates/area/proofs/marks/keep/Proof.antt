@@ -1,3 +1,4 @@
+use mathlib.Core.Path.{_∙_}
 use borrow.Author.Needs.{needs}
 use Rattle.area.specs.Marks.{keptAt}
 use Rattle.area.proofs.marks.keep.Statement.{statement}
@@ -17,13 +18,12 @@ returns-2 : tie.Need-returns-2
 unfolding keptAt
 returns-2 c = rw (c .before .if1 .left, c .if2 .taken)
 
+lower-of-requires : tie.Need-lower-of-requires
+lower-of-requires c κs = search needs
+
 returns-3 : tie.Need-returns-3
 unfolding keptAt
-returns-3 c = rw (c .before .before .if1 .left, c .before .if2 .left, c .if3 .taken)
-
-returns-4 : tie.Need-returns-4
-unfolding keptAt
-returns-4 c = rw (c .before .before .if1 .left, c .before .if2 .left, c .if3 .left)
+returns-3 c = c .lower-of .ensures ∙ rw (c .before .before .if1 .left, c .before .if2 .left)
 
 pub keep-spec : {M : Type 1} → statement M
-keep-spec = tie.close (tie.spec returns mul-own add-own returns-2 returns-3 returns-4)
+keep-spec = tie.close (tie.spec returns mul-own add-own returns-2 lower-of-requires returns-3)

@@ -7,15 +7,21 @@ use Rattle.area.proofs.MarkLaws.{infinite-size, finite-size}
 use Rattle.area.proofs.marks.size_or_infinity.Statement.{statement}
 use Rattle.area.proofs.marks.size_or_infinity.Tie as tie
 
+is-infinite-requires : tie.Need-is-infinite-requires
+is-infinite-requires c κs = search needs
+
 returns : tie.Need-returns
 unfolding keptWith
-returns c = rw (eqb-true (c .before .args .word) 0x7f80_0000 (c .if1 .taken), infinite-size)
+returns c = rw (eqb-true (c .before .before .args .word) 0x7f80_0000 (sym (c .before .is-infinite .ensures) ∙ c .if1 .taken), infinite-size)
 
 size-requires : tie.Need-size-requires
 size-requires c κs = search needs
 
 returns-2 : tie.Need-returns-2
-returns-2 c = c .size .ensures ∙ ap (keptWith (c .before .before .args .mark) (c .before .before .args .last) (c .before .before .args .n)) (sym (finite-size (c .before .before .args .word) (omega arith) (c .before .if1 .left)))
+returns-2 c =
+    let a = c .before .before .before .args in
+    let is-finite = sym (c .before .before .is-infinite .ensures) ∙ c .before .if1 .left in
+    c .size .ensures ∙ ap (keptWith (a .mark) (a .last) (a .n)) (sym (finite-size (a .word) (omega arith) is-finite))
 
 pub size-or-infinity-spec : {M : Type 1} → statement M
-size-or-infinity-spec = tie.close (tie.spec returns size-requires returns-2)
+size-or-infinity-spec = tie.close (tie.spec is-infinite-requires returns size-requires returns-2)

@@ -1,4 +1,4 @@
-use mathlib.Core.Path.{refl}
+use mathlib.Core.Path.{refl, _∙_}
 use Prim.Native.Nat.{_+_}
 use native.Mathlib.Omega.{arith}
 use borrow.Author.Needs.{needs}
@@ -30,7 +30,11 @@ returns : tie.Need-returns
 unfolding sweepRows
 returns c =
     let a = c .before .before .before .before .before .args in
-    rw (shown-word plain (a .s .now) (a .n) (refl, refl, refl), shown-end (a .s .now) (a .n + 1) (a .n) (omega arith), ← c .before .before .before .word-at .ensures, ← c .before .before .plain .ensures, ← c .before .word-at2 .ensures, ← c .end-of .ensures)
+    let s = a .s .now in
+    let n = a .n in
+    c .end-of .ensures
+    ∙ rw (c .before .word-at2 .ensures, c .before .before .plain .ensures, c .before .before .before .word-at .ensures)
+    (rw (shown-word plain s n (refl, refl, refl), shown-end s (n + 1) n (omega arith)))
 
 pub range-spec : {M : Type 1} → statement M
 range-spec =

@@ -1,4 +1,4 @@
-use mathlib.Core.Path.{refl}
+use mathlib.Core.Path.{refl, _∙_}
 use Prim.Native.Nat.{_+_}
 use native.Mathlib.Nat.{add-assoc}
 use native.Mathlib.Omega.{arith}
@@ -57,8 +57,10 @@ returns c =
     let a = c .before .before .before .before .before .before .before .before .before .args in
     let s = a .s .now in
     let n = a .n in
-    simp add-assoc
-    (rw (shown-word plain s n (refl, refl, refl), shown-word plain s (n + 1) (refl, refl, refl), shown-end s (n + 2) n (omega arith), shown-end s (n + 3) (n + 1) (omega arith), ← c .before .before .before .before .before .before .before .word-at .ensures, ← c .before .before .before .before .before .before .plain .ensures, ← c .before .before .before .before .before .word-at2 .ensures, ← c .before .before .before .before .plain2 .ensures, ← c .before .before .before .word-at3 .ensures, ← c .before .before .end-of .ensures, ← c .before .word-at4 .ensures, ← c .end-of2 .ensures))
+    c .end-of2 .ensures
+    ∙ rw (c .before .word-at4 .ensures, c .before .before .end-of .ensures, c .before .before .before .word-at3 .ensures, c .before .before .before .before .plain2 .ensures, c .before .before .before .before .before .word-at2 .ensures, c .before .before .before .before .before .before .plain .ensures, c .before .before .before .before .before .before .before .word-at .ensures)
+    (simp add-assoc
+    (rw (shown-word plain s n (refl, refl, refl), shown-word plain s (n + 1) (refl, refl, refl), shown-end s (n + 2) n (omega arith), shown-end s (n + 3) (n + 1) (omega arith))))
 
 pub rect-spec : {M : Type 1} → statement M
 rect-spec =
