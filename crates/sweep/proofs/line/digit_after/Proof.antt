@@ -18,7 +18,7 @@ add-result c = search needs
 returns : tie.Need-returns
 returns c =
     let a = c .before .before .before .args in
-    rw (c .before .sweep-words .ensures) (digit-is (a .frame .now) (a .n))
+    rw (c .before .sweep-words .ensures .0) (digit-is (a .frame .now) (a .n))
 
 pub digit-after-spec : {M : Type 1} → statement M
 digit-after-spec = tie.close (tie.spec cast-sweep-words sweep-words-requires cast-result add-result returns)
