@@ -3,15 +3,15 @@ use mathlib.Core.Path.{_≡_, refl, sym, ap, _∙_, subst}
 use mathlib.Core.Logic.{_≢_}
 use mathlib.Core.Bool.{Bool, true, false, cond, not}
 use mathlib.Core.List.{List}
-use Prim.Native.Nat.{ℕ, zero, suc, _<_, _≤_}
+use Prim.Native.Nat.{ℕ, zero, suc, _%_, _<_, _≤_}
 use native.Mathlib.Omega.{arith}
 use lib.Dec.{eqb, ltb}
 use lib.ListN.{length}
 use borrow.Author.Tests.{eqb-true, eqb-false, ne-eqb, eq-eqb, le-ltb}
 use Rattle.area.specs.Checks.{showsNo, anyShows, frameRefusal}
-use Rattle.area.specs.Sweep.{lowestOf, firstKeeping, badWord, BadWordHolds}
-use Rattle.area.specs.Marks.{shownBy}
-use Rattle.area.proofs.WalkLaws.{lowerOf, shownNo, lowest-next, Change, same, first, lower, next-change, since, since-within, since-none, since-some, lowest-is}
+use Rattle.area.specs.Sweep.{lowestOf, wordsUpTo, firstKeeping, badWord, BadWordHolds}
+use Rattle.area.specs.Marks.{shownBy, walkFrom, walkOf}
+use Rattle.area.proofs.WalkLaws.{lowerOf, shownNo, lowest-next, Change, same, first, lower, next-change, since, since-within, since-none, since-some, sweep-is, word-kept, lowest-is}
 
 -- ---- the first word
 
@@ -53,9 +53,9 @@ two-or-more false false true d h = refl
 two-or-more false false false true h = refl
 two-or-more false false false false h = absurd (omega (arith, h))
 
-pub bad-word-is : (s : List ℕ) → not (eqb (length s) 416) ≡ false → since s 104 ≡ badWord s
+since-is : (s : List ℕ) → not (eqb (length s) 416) ≡ false → since s 104 ≡ badWord s
 unfolding badWord lowestOf
-bad-word-is s whole = go (eqb (lowestOf s 104) 0) refl ∙ ap (λ (k : ℕ). cond (ltb 1 k) (firstKeeping s k 104) 0) (lowest-is s whole)
+since-is s whole = go (eqb (lowestOf s 104) 0) refl ∙ ap (λ (k : ℕ). cond (ltb 1 k) (firstKeeping s k 104) 0) (lowest-is s whole)
   where
     go : (b : Bool) → eqb (lowestOf s 104) 0 ≡ b → since s 104 ≡ cond (ltb 1 (lowestOf s 104)) (firstKeeping s (lowestOf s 104) 104) 0
     go true e = let none = eqb-true (lowestOf s 104) 0 e in since-none s 104 none ∙ rw none
@@ -63,6 +63,18 @@ bad-word-is s whole = go (eqb (lowestOf s 104) 0) refl ∙ ap (λ (k : ℕ). con
         let some : 0 < lowestOf s 104 = omega (arith, eqb-false (lowestOf s 104) 0 e) in
         sym (since-first s 104 some)
         ∙ rw (two-or-more (anyShows 2 s 104) (anyShows 3 s 104) (anyShows 4 s 104) (anyShows 5 s 104) some)
+
+walk-word : (s : List ℕ) → not (eqb (length s) 416) ≡ false → walkOf s 104 .mark % 128 ≡ since s 104
+unfolding walkOf walkFrom wordsUpTo lowestOf
+walk-word s whole = rw (whole, sweep-is s 104) (word-kept s 104 (omega arith))
+
+pub bad-word-is : (s : List ℕ) → walkOf s 104 .mark % 128 ≡ badWord s
+unfolding walkOf badWord frameRefusal
+bad-word-is s = go (not (eqb (length s) 416)) refl
+  where
+    go : (b : Bool) → not (eqb (length s) 416) ≡ b → walkOf s 104 .mark % 128 ≡ badWord s
+    go true e = rw e
+    go false e = walk-word s e ∙ since-is s e
 
 -- ---- that word itself
 
@@ -118,9 +130,9 @@ pub bad-word-holds : (s : List ℕ) → BadWordHolds s (badWord s)
 unfolding badWord
 bad-word-holds s = record {
   none = λ h. ap (λ (b : Bool). cond b (firstKeeping s (frameRefusal s) 104) 0) (le-ltb 1 (frameRefusal s) h);
-  some = λ h. let w = whole h in subst (λ (n : ℕ). (0 < n) × (n ≤ 104)) (bad-word-is s w) (since-some s 104 (kept w h), since-within s 104);
+  some = λ h. let w = whole h in subst (λ (n : ℕ). (0 < n) × (n ≤ 104)) (since-is s w) (since-some s 104 (kept w h), since-within s 104);
   shows = λ h. let w = whole h in
-      subst (λ (n : ℕ). showsNo (frameRefusal s) s n ≡ true) (bad-word-is s w)
+      subst (λ (n : ℕ). showsNo (frameRefusal s) s n ≡ true) (since-is s w)
       (subst (λ (k : ℕ). showsNo k s (since s 104) ≡ true) (lowest-is s w) (since-shows s 104 (kept w h)));
 }
   where

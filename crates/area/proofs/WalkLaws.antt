@@ -14,7 +14,7 @@ use Rattle.area.specs.Layout.{Row, rowNo}
 use Rattle.area.specs.Frame.{wordNo}
 use Rattle.area.specs.Checks.{showsNo, anyShows, frameRefusal}
 use Rattle.area.specs.Sweep.{lowestOf, wordsUpTo, sweptOf}
-use Rattle.area.specs.Marks.{shownBy, shownOf, keptAt, keptWith, sweepFrom, countedOf, walkFrom}
+use Rattle.area.specs.Marks.{shownBy, shownOf, keptAt, keptWith, sweepFrom, countedOf, walkFrom, walkOf}
 use Rattle.area.proofs.TestLaws.{either}
 use Rattle.area.proofs.SweepLaws.{Alone, shown-word}
 
@@ -280,7 +280,16 @@ pub lowest-is : (s : List ℕ) → not (eqb (length s) 416) ≡ false → lowest
 unfolding frameRefusal lowestOf
 lowest-is s whole = rw whole
 
--- ---- of any bytes: the walk over all words keeps the refusal
+-- ---- of any bytes
+pub swept-is : (s : List ℕ) (n : ℕ) → record { count = walkOf s n .count; kept = walkOf s n .mark / 128 } ≡ sweptOf s n
+unfolding walkOf walkFrom sweptOf
+swept-is s n = go (not (eqb (length s) 416)) refl
+  where
+    go : (b : Bool) → not (eqb (length s) 416) ≡ b → record { count = walkOf s n .count; kept = walkOf s n .mark / 128 } ≡ sweptOf s n
+    go true e = rw e
+    go false e = rw (e, counted-is n, sweep-is s n, number-kept s (wordsUpTo n) (up-to n))
+
+-- over all words it keeps the refusal
 pub swept-refusal : (s : List ℕ) → sweptOf s 104 .kept ≡ frameRefusal s
 unfolding sweptOf wordsUpTo lowestOf frameRefusal
 swept-refusal s = go (not (eqb (length s) 416)) refl

@@ -1,7 +1,7 @@
 -- What the functions of the walk do, word by word and field by field: for the proof of src/marks.rt and src/sweep.rt alone.
 -- A mark is the number that a word shows times 128, plus the word's own number; 0 is none.
 use mathlib.Core.Path.{_≡_}
-use mathlib.Core.Bool.{cond, _&&_}
+use mathlib.Core.Bool.{cond, not, _&&_}
 use mathlib.Core.List.{List, [], _∷_}
 use Prim.Native.Nat.{ℕ, zero, suc, _+_, _*_, _-_, _<_, _≤_}
 use lib.Dec.{eqb, ltb, leb}
@@ -75,3 +75,9 @@ countedOf count last words = cond (leb last count) count (cond (ltb (last - coun
 -- both, over k words from word n on
 unfoldable pub walkFrom : List ℕ → ℕ → ℕ → ℕ → Walk → Walk
 walkFrom s last n k w = record { count = countedOf (w .count) last k; mark = sweepFrom s last n k (w .mark) }
+
+-- the walk over the first words of a frame, up to `last`; of a frame of another length the mark of 1, at no word
+unfoldable pub walkOf : List ℕ → ℕ → Walk
+walkOf s last =
+    cond (not (eqb (length s) 416)) (record { count = 0; mark = 128 })
+    (walkFrom s last 1 104 (record { count = 0; mark = 0 }))

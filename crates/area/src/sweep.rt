@@ -305,16 +305,22 @@ fn content(walk: Walk, last: u32, s: &[u8]) -> Walk
 
 // ---- the walk
 
-// The first `last` words of a whole frame, or all.
-fn walk_over(s: &[u8], last: u32) -> Walk
-    requires { ⌜ length (now s) ≡ 416 ⌝ }
-    ensures { λ r. ⌜ r ≡ Marks.walkFrom (now (s .entry)) last 1 104 (record { count = 0; mark = 0 }) ⌝ }
+// The first `last` words of a frame, or all. Of a frame of another length it takes none, and the mark is that of 1 at no word.
+fn walk_over(frame: &[u8], last: u32) -> Walk
+    ensures { λ r. ⌜ r ≡ Marks.walkOf (now (frame .entry)) last ⌝ }
 {
+    let whole = frame.len() == 416;
+    if !whole {
+        return Walk {
+            count: 0,
+            mark: 128,
+        };
+    }
     let walk = Walk { count: 0, mark: 0 };
-    let walk = settings(walk, last, s);
-    let walk = style(walk, last, s);
-    let walk = host(walk, last, s);
-    content(walk, last, s)
+    let walk = settings(walk, last, frame);
+    let walk = style(walk, last, frame);
+    let walk = host(walk, last, frame);
+    content(walk, last, frame)
 }
 
 // After the first n words of a frame, or all: how many they are, and the number kept.
@@ -322,10 +328,6 @@ pub fn sweep_words(frame: &[u8], n: u32) -> Swept
     ensures answers { λ r. ⌜ r ≡ Spec.sweptOf (now (frame .entry)) n ⌝ }
     ensures holds { λ r. ⌜ Spec.SweepHolds (now (frame .entry)) n r ⌝ }
 {
-    let whole = frame.len() == 416;
-    if !whole {
-        return Swept { count: 0, kept: 1 };
-    }
     let walk = walk_over(frame, n);
     Swept {
         count: walk.count,
@@ -338,10 +340,6 @@ pub fn bad_word(frame: &[u8]) -> u32
     ensures answers { λ r. ⌜ r ≡ Spec.badWord (now (frame .entry)) ⌝ }
     ensures holds { λ r. ⌜ Spec.BadWordHolds (now (frame .entry)) r ⌝ }
 {
-    let whole = frame.len() == 416;
-    if !whole {
-        return 0;
-    }
     let walk = walk_over(frame, 104);
     walk.mark % 128
 }
