@@ -11,7 +11,7 @@
  * must be the usual one: rounding to nearest even, no flush to zero, exceptions masked. No call changes it, but for its
  * status flags. The stack that the calls take is measured (README), not proved.
  *
- * Every answer is 0, or the number of a refusal:
+ * Every answer, but for that of strakobud_bad_word, is 0 or the number of a refusal:
  *   1  the frame is not 416 bytes long
  *   2  a flag is not 0 or 1, or a kind is outside its values
  *   3  a number is not finite or exceeds 1,048,576 in magnitude (max_size and points per second may be +infinity; the
@@ -86,6 +86,12 @@ void strakobud_fresh(uint8_t state[STRAKOBUD_STATE_BYTES]);
  * delta left 2, scroll delta left 2, repaint wanted. */
 uint32_t strakobud_frame(uint8_t state[STRAKOBUD_STATE_BYTES], const uint8_t *frame, size_t len,
                          uint8_t out[STRAKOBUD_OUT_BYTES]);
+
+/* Which word made a frame bad. Checks 2 to 5 go over the words once, in order, and keep the lowest number that the words so
+ * far show; this is the number of the first word, from 1 to 104, after which that is the frame's refusal, and the word
+ * itself shows it. An end below its start is at the end's word, a time outside its range at word 53. 0 where 2 to 5 do not
+ * refuse the frame: it passes them, or is not 416 bytes long. The state is not asked: 6 to 8 have no word. */
+uint32_t strakobud_bad_word(const uint8_t *frame, size_t len);
 
 /* A maker's own decay table: 1,025 numbers of 64 bits, the lowest byte first, by which a coasting list slows in the place
  * of the built-in table T. Loading checks the len bytes and, at 0, copies them to table; at 10 and 11 table stays. Equal

@@ -138,6 +138,7 @@ int main(void)
     put_word(frame, 61, 1); /* dragged, by */
     put_number(frame, 58, NAN); /* a pointer delta that is not a number */
     show("22 rows, a bad sample", strakobud_frame(state, frame, sizeof frame, out), state);
+    printf("its bad word: %" PRIu32 "\n", strakobud_bad_word(frame, sizeof frame));
     clear_input(frame);
     show("the same without input", strakobud_frame(state, frame, sizeof frame, out), state);
     show("a short frame", strakobud_frame(state, frame, 100, out), state);

@@ -1,9 +1,9 @@
 -- What a word's bits tell at once of the numbers that it shows. Assumes nothing.
 use mathlib.Core.Path.{_≡_, refl, sym, ap, _∙_}
-use mathlib.Core.Bool.{Bool, true, false, cond, not, _&&_}
-use Prim.Native.Nat.{ℕ, _^_, _%_, _<_, _≤_}
+use mathlib.Core.Bool.{Bool, true, false, not, _&&_}
+use Prim.Native.Nat.{ℕ, _^_, _%_, _<_}
 use native.Mathlib.Omega.{arith}
-use lib.Dec.{eqb, leb, ltb}
+use lib.Dec.{eqb, leb}
 use lib.Ieee.{binary32, ofBits, toBits, lt, le, ne, eq, div}
 use borrow.Author.Tests.{leb-true, le-ltb}
 use Rattle.numbers.specs.F32 as F32

@@ -6,7 +6,7 @@ use mathlib.Core.List.{List, [], _∷_}
 use Prim.Native.Nat.{ℕ, zero, suc, _+_, _*_, _-_, _<_, _≤_}
 use lib.Dec.{eqb, ltb, leb}
 use lib.ListN.{length}
-use lib.Ieee.{Float, binary32, binary64, ofBits}
+use lib.Ieee.{binary32, binary64, ofBits}
 use Rattle.area.specs.declared.sweep.Walk.{Walk}
 use Rattle.area.specs.Layout.{Row, kind, plain, endOf, animationAt, rowNo}
 use Rattle.area.specs.Checks.{isHeeded, isShown, shows2, shows3, shows4, shows5}

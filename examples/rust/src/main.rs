@@ -109,6 +109,7 @@ fn main() {
     frame.word(61, 1); // dragged, by
     frame.number(58, f32::NAN); // a pointer delta that is not a number
     run("22 rows, a bad sample", &frame.0);
+    println!("its bad word: {}", strakobud::bad_word(&frame.0));
     frame.clear_input();
     run("the same without input", &frame.0);
     run("a short frame", &frame.0[..100]);

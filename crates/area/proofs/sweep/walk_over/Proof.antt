@@ -1,5 +1,4 @@
 -- The four parts are one walk over all words.
-use mathlib.Core.Path.{_≡_, _∙_}
 use Rattle.area.specs.declared.sweep.Walk.{Walk}
 use Rattle.area.specs.Marks.{walkOf}
 use Rattle.area.proofs.WalkLaws.{part, whole-is}
