@@ -1,3 +1,4 @@
+use mathlib.Core.Path.{refl, _∙_}
 use borrow.Author.Needs.{needs}
 use Rattle.area.specs.Checks.{shows2, shows3, shows4, shows5}
 use Rattle.area.specs.Marks.{shownOf}
@@ -19,7 +20,7 @@ with-number-requires c κs = search needs
 
 returns : tie.Need-returns
 unfolding shownOf shows2 shows3 shows4 shows5
-returns c = rw (← c .before .before .word-exceeds-limit .ensures, ← c .before .before .before .f32-of-bits .ensures, ← c .before .f32-of-bits2 .ensures) (simp or-false (rw (← c .with-number .ensures)))
+returns c = c .with-number .ensures ∙ rw (c .before .f32-of-bits2 .ensures, c .before .before .before .f32-of-bits .ensures, c .before .before .word-exceeds-limit .ensures) (simp or-false refl)
 
 pub end-of-spec : {M : Type 1} → statement M
 end-of-spec =

@@ -1,3 +1,4 @@
+use mathlib.Core.Path.{refl, _∙_}
 use borrow.Author.Needs.{needs}
 use Rattle.area.specs.Checks.{shows2, shows3, shows4, shows5}
 use Rattle.area.specs.Marks.{shownOf}
@@ -16,7 +17,7 @@ with-number-requires c κs = search needs
 
 returns : tie.Need-returns
 unfolding shownOf shows2 shows3 shows4 shows5
-returns c = rw (← c .before .word-exceeds-limit .ensures, ← c .before .before .f32-of-bits .ensures) (simp or-false (rw (← c .with-number .ensures)))
+returns c = c .with-number .ensures ∙ rw (c .before .before .f32-of-bits .ensures, c .before .word-exceeds-limit .ensures) (simp or-false refl)
 
 pub factor-spec : {M : Type 1} → statement M
 factor-spec =

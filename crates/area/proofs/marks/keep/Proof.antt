@@ -1,4 +1,7 @@
-use mathlib.Core.Path.{_∙_}
+use mathlib.Core.Path.{sym, ap, _∙_}
+use mathlib.Core.Bool.{Bool, cond}
+use Prim.Native.Nat.{_+_, _*_}
+use lib.Dec.{eqb, ltb}
 use borrow.Author.Needs.{needs}
 use Rattle.area.specs.Marks.{keptAt}
 use Rattle.area.proofs.marks.keep.Statement.{statement}
@@ -6,7 +9,10 @@ use Rattle.area.proofs.marks.keep.Tie as tie
 
 returns : tie.Need-returns
 unfolding keptAt
-returns c = rw (c .if1 .taken)
+returns c =
+    let a = c .before .args in
+    let own = a .k * 128 + a .n in
+    sym (ap (λ (b : Bool). cond b (a .mark) (cond (eqb (a .mark) 0) own (cond (ltb own (a .mark)) own (a .mark)))) (c .if1 .taken))
 
 mul-own : tie.Need-mul-own
 mul-own c = search needs

@@ -1,3 +1,4 @@
+use mathlib.Core.Path.{refl, _∙_}
 use borrow.Author.Needs.{needs}
 use Rattle.area.specs.Checks.{shows2, shows3, shows4, shows5}
 use Rattle.area.specs.Marks.{shownOf}
@@ -13,7 +14,7 @@ with-number-requires c κs = search needs
 
 returns : tie.Need-returns
 unfolding shownOf shows2 shows3 shows4 shows5
-returns c = rw (← c .before .word-exceeds-limit .ensures) (simp or-false (rw (← c .with-number .ensures)))
+returns c = c .with-number .ensures ∙ rw (c .before .word-exceeds-limit .ensures) (simp or-false refl)
 
 pub plain-spec : {M : Type 1} → statement M
 plain-spec = tie.close (tie.spec word-exceeds-limit-requires with-number-requires returns)

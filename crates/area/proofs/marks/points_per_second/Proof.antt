@@ -1,4 +1,4 @@
-use mathlib.Core.Path.{sym, _∙_}
+use mathlib.Core.Path.{refl, sym, _∙_}
 use native.Mathlib.Omega.{arith}
 use borrow.Author.Tests.{eqb-true}
 use borrow.Author.Needs.{needs}
@@ -29,7 +29,9 @@ returns-2 : tie.Need-returns-2
 unfolding shownOf shows2 shows3 shows4 shows5
 returns-2 c =
     let is-finite = sym (c .before .before .before .before .is-infinite .ensures) ∙ c .before .before .before .if1 .left in
-    rw (finite (c .before .before .before .before .before .args .word) (omega arith) is-finite, ← c .before .word-exceeds-limit .ensures, ← c .before .before .f32-of-bits .ensures) (simp (or-false, and-true) (rw (← c .with-number .ensures)))
+    c .with-number .ensures
+    ∙ rw (c .before .word-exceeds-limit .ensures, c .before .before .f32-of-bits .ensures)
+    (rw (finite (c .before .before .before .before .before .args .word) (omega arith) is-finite) (simp (or-false, and-true) refl))
 
 pub points-per-second-spec : {M : Type 1} → statement M
 points-per-second-spec =
