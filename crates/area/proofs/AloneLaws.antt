@@ -12,7 +12,7 @@ use Rattle.area.specs.Frame.{wordNo, numberNo, timeNo}
 use Rattle.area.specs.Checks.{isHeeded, isShown, showsNo, anyShows}
 use Rattle.area.specs.Sweep.{SameWords, lowestOf, sweptOf, SweepHolds}
 use Rattle.area.proofs.TestLaws.{and-left, and-right}
-use Rattle.area.proofs.WalkLaws.{up-to-is, swept-refusal}
+use Rattle.area.proofs.WalkLaws.{up-to-is, on-the-way, swept-refusal}
 
 -- ---- each row names words up to its own
 abbrev isBack : ℕ → Row → Bool
@@ -62,19 +62,24 @@ module _ (s t : List ℕ) where
   any-alone k zero same = refl
   any-alone k (suc n) same = rw (any-alone k n (fewer n same), shows-alone k (suc n) (omega arith) same)
 
-  pub lowest-alone : (n : ℕ) → SameWords s t n → lowestOf t n ≡ lowestOf s n
+  lowest-alone : (n : ℕ) → SameWords s t n → lowestOf t n ≡ lowestOf s n
   unfolding lowestOf
   lowest-alone n same = rw (any-alone 2 n same, any-alone 3 n same, any-alone 4 n same, any-alone 5 n same)
 
 -- ---- what holds of every walk
 pub sweep-holds : (s : List ℕ) (n : ℕ) → SweepHolds s n (sweptOf s n)
 unfolding sweptOf
-sweep-holds s n = record {
-  counts = λ whole fits. rw (eq-eqb (length s) 416 whole) (up-to-is n fits);
-  keeps = keeps;
-  alone = λ whole fits t same. keeps whole fits ∙ sym (lowest-alone s t n same);
-  refuses = λ e. ap (λ (m : ℕ). sweptOf s m .kept) e ∙ swept-refusal s;
-}
+sweep-holds s n =
+    record {
+      counts = counts;
+      keeps = keeps;
+      alone = λ whole fits t same. keeps whole fits ∙ sym (lowest-alone s t n same);
+      on-the-way = λ whole fits. let at = on-the-way s n fits in (at .0 ∙ sym (counts whole fits), at .1 ∙ sym (keeps whole fits));
+      refuses = λ e. ap (λ (m : ℕ). sweptOf s m .kept) e ∙ swept-refusal s;
+    }
   where
+    counts : length s ≡ 416 → n ≤ 104 → sweptOf s n .count ≡ n
+    counts whole fits = rw (eq-eqb (length s) 416 whole) (up-to-is n fits)
+
     keeps : length s ≡ 416 → n ≤ 104 → sweptOf s n .kept ≡ lowestOf s n
     keeps whole fits = rw (eq-eqb (length s) 416 whole) (ap (lowestOf s) (up-to-is n fits))

@@ -8,7 +8,7 @@ use native.Mathlib.Omega.{arith}
 use lib.Dec.{eqb, ltb}
 use lib.ListN.{length}
 use borrow.Author.Tests.{eqb-true, eqb-false, ne-eqb, eq-eqb, le-ltb}
-use Rattle.area.specs.Checks.{showsNo, anyShows, frameRefusal}
+use Rattle.area.specs.Checks.{showsNo, anyShows, lowestWhere, frameRefusal}
 use Rattle.area.specs.Sweep.{lowestOf, wordsUpTo, firstKeeping, badWord, BadWordHolds}
 use Rattle.area.specs.Marks.{shownBy, walkFrom, walkOf}
 use Rattle.area.proofs.WalkLaws.{lowerOf, shownNo, lowest-next, Change, same, first, lower, next-change, since, since-within, since-none, since-some, sweep-is, word-kept, lowest-is}
@@ -46,7 +46,7 @@ since-first s (suc n) some = go (next-change s n) (since-first s n)
     go (lower l h) before = changed (λ g. l) (λ z. omega (arith, l, z))
 
 -- a number kept is 2 or more
-two-or-more : (a b c d : Bool) → 0 < cond a 2 (cond b 3 (cond c 4 (cond d 5 0))) → ltb 1 (cond a 2 (cond b 3 (cond c 4 (cond d 5 0)))) ≡ true
+two-or-more : (a b c d : Bool) → 0 < lowestWhere a b c d → ltb 1 (lowestWhere a b c d) ≡ true
 two-or-more true b c d h = refl
 two-or-more false true c d h = refl
 two-or-more false false true d h = refl
@@ -79,11 +79,11 @@ bad-word-is s = go (not (eqb (length s) 416)) refl
 -- ---- that word itself
 
 -- the lowest of four that holds, holds
-picked : (P : ℕ → Bool) → 0 < cond (P 2) 2 (cond (P 3) 3 (cond (P 4) 4 (cond (P 5) 5 0))) → P (cond (P 2) 2 (cond (P 3) 3 (cond (P 4) 4 (cond (P 5) 5 0)))) ≡ true
+picked : (P : ℕ → Bool) → 0 < lowestWhere (P 2) (P 3) (P 4) (P 5) → P (lowestWhere (P 2) (P 3) (P 4) (P 5)) ≡ true
 picked P = go (P 2) refl (P 3) refl (P 4) refl (P 5) refl
   where
     go : (a : Bool) → P 2 ≡ a → (b : Bool) → P 3 ≡ b → (c : Bool) → P 4 ≡ c → (d : Bool) → P 5 ≡ d →
-        0 < cond a 2 (cond b 3 (cond c 4 (cond d 5 0))) → P (cond a 2 (cond b 3 (cond c 4 (cond d 5 0)))) ≡ true
+        0 < lowestWhere a b c d → P (lowestWhere a b c d) ≡ true
     go true ea b eb c ec d ed h = ea
     go false ea true eb c ec d ed h = eb
     go false ea false eb true ec d ed h = ec
@@ -121,10 +121,10 @@ since-shows s (suc n) some = go (eqb (lowestOf s (suc n)) (lowestOf s n)) refl (
         ap (λ (k : ℕ). showsNo k s (suc n)) shown ∙ shown-shows s (suc n) (subst (λ (k : ℕ). 0 < k) shown some)
 
 -- ---- what holds of the bad word
-not-long : (s : List ℕ) (b : Bool) → not (eqb (length s) 416) ≡ b → 1 < frameRefusal s → b ≡ false
+is-whole : (s : List ℕ) (b : Bool) → not (eqb (length s) 416) ≡ b → 1 < frameRefusal s → b ≡ false
 unfolding frameRefusal
-not-long s false e h = refl
-not-long s true e h = absurd (omega (arith, subst (λ (b : Bool). 1 < cond b 1 (cond (anyShows 2 s 104) 2 (cond (anyShows 3 s 104) 3 (cond (anyShows 4 s 104) 4 (cond (anyShows 5 s 104) 5 0))))) e h))
+is-whole s false e h = refl
+is-whole s true e h = absurd (omega (arith, subst (λ (b : Bool). 1 < cond b 1 (lowestWhere (anyShows 2 s 104) (anyShows 3 s 104) (anyShows 4 s 104) (anyShows 5 s 104))) e h))
 
 pub bad-word-holds : (s : List ℕ) → BadWordHolds s (badWord s)
 unfolding badWord
@@ -137,7 +137,7 @@ bad-word-holds s = record {
 }
   where
     whole : 1 < frameRefusal s → not (eqb (length s) 416) ≡ false
-    whole h = not-long s (not (eqb (length s) 416)) refl h
+    whole h = is-whole s (not (eqb (length s) 416)) refl h
 
     kept : not (eqb (length s) 416) ≡ false → 1 < frameRefusal s → 0 < lowestOf s 104
     kept w h = omega (arith, h, lowest-is s w)

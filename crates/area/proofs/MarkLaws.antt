@@ -14,12 +14,8 @@ use Rattle.axis.proofs.WordLaws.{word-outside}
 use Rattle.area.specs.Layout.{sizeOrInfinity, pointsPerSecond, size}
 use Rattle.area.specs.Checks.{infinity, shows2, shows3, shows4, shows5}
 use Rattle.area.specs.Marks.{shownOf}
-use Rattle.area.proofs.SweepLaws.{or-false}
+use Rattle.area.proofs.TestLaws.{or-false, and-true}
 use Rattle.area.proofs.InfinityLaws.{word-not-infinity}
-
-pub and-true : (p : Bool) → (p && true) ≡ p
-and-true true = refl
-and-true false = refl
 
 -- at most the limit, a pattern is that of a number from 0 to it
 pub fits-limit : (w : ℕ) → leb w 0x4980_0000 ≡ true → (exceedsLimit (ofBits binary32 w) ≡ false) × (lt (ofBits binary32 w) F32.zero ≡ false)

@@ -1,6 +1,6 @@
 -- What the functions of the walk need of single words and of options. Assumes nothing.
 use mathlib.Core.Path.{_≡_, refl, sym, ap, _∙_}
-use mathlib.Core.Bool.{Bool, true, false, cond, _&&_, _||_}
+use mathlib.Core.Bool.{Bool, true, false, _&&_}
 use mathlib.Core.List.{List, [], _∷_}
 use Prim.Native.Nat.{ℕ, _+_, _<_}
 use native.Mathlib.Omega.{arith}
@@ -8,22 +8,17 @@ use lib.Dec.{eqb}
 use borrow.Author.Tests.{ne-eqb}
 use Rattle.area.specs.Layout.{Row, flag, endOf, inside, optionAt, timeHigh}
 use Rattle.area.specs.Frame.{wordNo, flagNo, numberNo}
-use Rattle.area.specs.Checks.{isHeeded, shows2, shows3, shows4, shows5, isShown}
+use Rattle.area.specs.Checks.{isHeeded, shows2, shows3, shows4, shows5, isShown, lowestWhere}
 use Rattle.area.specs.Marks.{shownBy, shownOf, keptWith, sweepRows}
 use Rattle.area.proofs.TestLaws.{or-right, neither, and-left, and-right}
 
--- the tests of another row fall away
-pub or-false : (p : Bool) → (p || false) ≡ p
-or-false true = refl
-or-false false = refl
-
 -- ---- a word outside options, by its value
 
--- the row is of no option, has no start and is no half of the time
-abbrev pub Alone : Row → Type 0
-Alone r = (eqb (r .option) 0 ≡ true) × (eqb (r .start) 0 ≡ true) × (eqb (r .how) timeHigh ≡ false)
+-- the row is of no option, has no start and is not the time's high word
+abbrev pub Apart : Row → Type 0
+Apart r = (eqb (r .option) 0 ≡ true) × (eqb (r .start) 0 ≡ true) × (eqb (r .how) timeHigh ≡ false)
 
-pub shown-word : (r : Row) (s : List ℕ) (n : ℕ) → Alone r → shownBy r s n ≡ shownOf r (wordNo s n) 0
+pub shown-word : (r : Row) (s : List ℕ) (n : ℕ) → Apart r → shownBy r s n ≡ shownOf r (wordNo s n) 0
 unfolding shownBy shownOf isHeeded isShown shows2 shows3 shows4 shows5 numberNo
 shown-word r s n (outside, whole, single) = rw (outside, whole, single)
 
@@ -40,11 +35,7 @@ allHeeded s (r ∷ rows) = isHeeded s r && allHeeded s rows
 
 -- what a word shows, by whether it is heeded
 abbrev heededShows : Bool → Row → List ℕ → ℕ → ℕ
-heededShows h r s n =
-    cond (h && isShown 2 s n r) 2
-    (cond (h && isShown 3 s n r) 3
-    (cond (h && isShown 4 s n r) 4
-    (cond (h && isShown 5 s n r) 5 0)))
+heededShows h r s n = lowestWhere (h && isShown 2 s n r) (h && isShown 3 s n r) (h && isShown 4 s n r) (h && isShown 5 s n r)
 
 module _ (s : List ℕ) (last m : ℕ) where
   shown-by : (h : Bool) (r : Row) (n : ℕ) → isHeeded s (inside m r) ≡ h → shownBy (inside m r) s n ≡ heededShows h r s n
@@ -61,7 +52,7 @@ module _ (s : List ℕ) (last m : ℕ) where
   shown-off r n some off = shown-by false r n (neither (eqb m 0) (flagNo s m) some off)
 
   -- on: as outside an option
-  pub option-on : (rows : List Row) (n mark : ℕ) → flagNo s m ≡ true → allHeeded s rows ≡ true →
+  option-on : (rows : List Row) (n mark : ℕ) → flagNo s m ≡ true → allHeeded s rows ≡ true →
       sweepRows s last n (optionAt m rows) mark ≡ sweepRows s last n rows mark
   unfolding sweepRows
   option-on [] n mark on heeded = refl
@@ -70,7 +61,7 @@ module _ (s : List ℕ) (last m : ℕ) where
       ∙ option-on rows (n + 1) _ on (and-right (isHeeded s r) (allHeeded s rows) heeded)
 
   -- off: they show nothing
-  pub option-off : (rows : List Row) (n mark : ℕ) → eqb m 0 ≡ false → flagNo s m ≡ false → sweepRows s last n (optionAt m rows) mark ≡ mark
+  option-off : (rows : List Row) (n mark : ℕ) → eqb m 0 ≡ false → flagNo s m ≡ false → sweepRows s last n (optionAt m rows) mark ≡ mark
   unfolding sweepRows keptWith
   option-off [] n mark some off = refl
   option-off (r ∷ rows) n mark some off =

@@ -26,7 +26,15 @@ pub not-right : (p q : Bool) → (p || q) ≡ false → q ≡ false
 not-right true q h = absurd (true≢false h)
 not-right false q h = h
 
+pub or-false : (p : Bool) → (p || false) ≡ p
+or-false true = refl
+or-false false = refl
+
 -- ---- "and"
+pub and-true : (p : Bool) → (p && true) ≡ p
+and-true true = refl
+and-true false = refl
+
 pub and-both : (p q : Bool) → p ≡ true → q ≡ true → (p && q) ≡ true
 and-both true q h k = k
 and-both false q h k = h

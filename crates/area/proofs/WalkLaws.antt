@@ -12,11 +12,11 @@ use borrow.Author.Tests.{eqb-true, eqb-false, not-false, ne-eqb, eq-eqb, ltb-tru
 use Rattle.area.specs.declared.sweep.Walk.{Walk}
 use Rattle.area.specs.Layout.{Row, rowNo}
 use Rattle.area.specs.Frame.{wordNo}
-use Rattle.area.specs.Checks.{showsNo, anyShows, frameRefusal}
+use Rattle.area.specs.Checks.{showsNo, anyShows, lowestWhere, frameRefusal}
 use Rattle.area.specs.Sweep.{lowestOf, wordsUpTo, sweptOf}
 use Rattle.area.specs.Marks.{shownBy, shownOf, keptAt, keptWith, sweepFrom, countedOf, walkFrom, walkOf}
 use Rattle.area.proofs.TestLaws.{either}
-use Rattle.area.proofs.SweepLaws.{Alone, shown-word}
+use Rattle.area.proofs.SweepLaws.{Apart, shown-word}
 
 -- ---- the lowest number with one word more
 
@@ -24,7 +24,7 @@ use Rattle.area.proofs.SweepLaws.{Alone, shown-word}
 unfoldable pub lowerOf : ℕ → ℕ → ℕ
 lowerOf low k = cond (eqb k 0) low (cond (eqb low 0) k (cond (ltb k low) k low))
 
--- k is not above x
+-- k is the lower of the two, 0 being none
 abbrev Least : ℕ → ℕ → Type 0
 Least k x = (lowerOf k x ≡ k) × (lowerOf x k ≡ k)
 
@@ -36,8 +36,7 @@ lower-cond k false true x y h hx hy = hx .1
 lower-cond k false false x y h hx hy = refl
 
 lowest-step : (a b c d a′ b′ c′ d′ : Bool) →
-    lowerOf (cond a 2 (cond b 3 (cond c 4 (cond d 5 0)))) (cond a′ 2 (cond b′ 3 (cond c′ 4 (cond d′ 5 0))))
-    ≡ cond (a || a′) 2 (cond (b || b′) 3 (cond (c || c′) 4 (cond (d || d′) 5 0)))
+    lowerOf (lowestWhere a b c d) (lowestWhere a′ b′ c′ d′) ≡ lowestWhere (a || a′) (b || b′) (c || c′) (d || d′)
 unfolding lowerOf
 lowest-step a b c d a′ b′ c′ d′ =
     let five : (k : ℕ) → Least k 5 → Least k 0 → (t : Bool) → Least k (cond t 5 0) = λ k p q t. either (Least k) t 5 0 p q in
@@ -144,19 +143,19 @@ mark-next s last n fits goes =
     ∙ ap (λ (low : ℕ). low * 128 + cond (eqb low (lowestOf s n)) (since s n) (suc n)) (lowest-next s n)
 
 -- ---- the walk
-abbrev least : ℕ → ℕ → ℕ
-least last n = cond (ltb last n) last n
+abbrev cut : ℕ → ℕ → ℕ
+cut last n = cond (ltb last n) last n
 
 after-last : (mark last n k : ℕ) → ltb last n ≡ true → keptWith mark last n k ≡ mark
 unfolding keptWith keptAt
 after-last mark last n k e = rw e (either (λ (m : ℕ). m ≡ mark) (eqb k 0) mark mark refl refl)
 
 sweep-next : (s : List ℕ) (last n : ℕ) → n < 104 →
-    keptWith (markAfter s (least last n)) last (suc n) (shownNo s (suc n)) ≡ markAfter s (least last (suc n))
+    keptWith (markAfter s (cut last n)) last (suc n) (shownNo s (suc n)) ≡ markAfter s (cut last (suc n))
 sweep-next s last n fits = go (ltb last (suc n)) refl
   where
-    go : (b : Bool) → ltb last (suc n) ≡ b → keptWith (markAfter s (least last n)) last (suc n) (shownNo s (suc n)) ≡ markAfter s (cond b last (suc n))
-    go true e = after-last (markAfter s (least last n)) last (suc n) (shownNo s (suc n)) e ∙ ap (markAfter s) (ends (ltb last n) refl)
+    go : (b : Bool) → ltb last (suc n) ≡ b → keptWith (markAfter s (cut last n)) last (suc n) (shownNo s (suc n)) ≡ markAfter s (cond b last (suc n))
+    go true e = after-last (markAfter s (cut last n)) last (suc n) (shownNo s (suc n)) e ∙ ap (markAfter s) (ends (ltb last n) refl)
       where
         ends : (b : Bool) → ltb last n ≡ b → cond b last n ≡ last
         ends true h = refl
@@ -165,7 +164,7 @@ sweep-next s last n fits = go (ltb last (suc n)) refl
         ap (λ (m : ℕ). keptWith (markAfter s m) last (suc n) (shownNo s (suc n))) (rw (le-ltb last n (omega (arith, ltb-false last (suc n) e))))
         ∙ mark-next s last n fits e
 
-sweep-marks : (s : List ℕ) (last n k : ℕ) → n + k ≤ 104 → sweepFrom s last (suc n) k (markAfter s (least last n)) ≡ markAfter s (least last (n + k))
+sweep-marks : (s : List ℕ) (last n k : ℕ) → n + k ≤ 104 → sweepFrom s last (suc n) k (markAfter s (cut last n)) ≡ markAfter s (cut last (n + k))
 unfolding sweepFrom
 sweep-marks s last n zero fits = rw add-zero
 sweep-marks s last n (suc k) fits =
@@ -178,13 +177,13 @@ pub sweep-is : (s : List ℕ) (n : ℕ) → sweepFrom s n 1 104 0 ≡ markAfter 
 unfolding lowestOf anyShows wordsUpTo
 sweep-is s n = ap (sweepFrom s n 1 104) start ∙ sweep-marks s n 0 104 (omega arith)
   where
-    start : 0 ≡ markAfter s (least n 0)
+    start : 0 ≡ markAfter s (cut n 0)
     start = rw (le-ltb n 0 (omega arith))
 
 -- ---- the count
 
 -- two fields in a row
-pub counted-more : (count last a b : ℕ) → countedOf (countedOf count last a) last b ≡ countedOf count last (a + b)
+counted-more : (count last a b : ℕ) → countedOf (countedOf count last a) last b ≡ countedOf count last (a + b)
 unfolding countedOf
 counted-more count last a b = go (leb last count) refl (ltb (last - count) a) refl (leb last (count + a)) refl (ltb (last - count) (a + b)) refl
   where
@@ -202,7 +201,7 @@ counted-more count last a b = go (leb last count) refl (ltb (last - count) a) re
     go false ep false eq false er false et =
         rw (ep, eq, er, et, le-ltb (last - (count + a)) b (omega (arith, ltb-false (last - count) (a + b) et)), add-assoc)
 
-pub counted-is : (n : ℕ) → countedOf 0 n 104 ≡ wordsUpTo n
+counted-is : (n : ℕ) → countedOf 0 n 104 ≡ wordsUpTo n
 unfolding countedOf wordsUpTo
 counted-is zero = refl
 counted-is (suc n) = rw (lt-leb (suc n) 0 (omega arith), sub-zero)
@@ -210,7 +209,7 @@ counted-is (suc n) = rw (lt-leb (suc n) 0 (omega arith), sub-zero)
 -- ---- field after field
 
 -- one word outside options
-pub one-word : (s : List ℕ) (last n : ℕ) (r : Row) (mark word kept : ℕ) → rowNo n ≡ r → Alone r → word ≡ wordNo s n →
+pub one-word : (s : List ℕ) (last n : ℕ) (r : Row) (mark word kept : ℕ) → rowNo n ≡ r → Apart r → word ≡ wordNo s n →
     kept ≡ keptWith mark last n (shownOf r word 0) → kept ≡ sweepFrom s last n 1 mark
 unfolding sweepFrom
 one-word s last n r mark word kept row alone word-is kept-is =
@@ -229,19 +228,19 @@ no-field s last n w = go (leb last (w .count)) refl
     go true e = rw e
     go false e = rw (e, le-ltb (last - w .count) 0 (omega arith), add-zero)
 
+-- a part of j words after k
+pub part : (s : List ℕ) (last n k j : ℕ) (w before after : Walk) → before ≡ walkFrom s last n k w →
+    after ≡ walkFrom s last (n + k) j before → after ≡ walkFrom s last n (k + j) w
+unfolding walkFrom
+part s last n k j w before after before-is after-is = after-is ∙ rw (before-is, counted-more, sweep-more)
+
 -- a field of j words after k
 pub field : (s : List ℕ) (last n k j : ℕ) (w before after : Walk) (mark : ℕ) → before ≡ walkFrom s last n k w →
     mark ≡ sweepFrom s last (n + k) j (before .mark) → after ≡ record { count = countedOf (before .count) last j; mark = mark } →
     after ≡ walkFrom s last n (k + j) w
 unfolding walkFrom
 field s last n k j w before after mark before-is mark-is after-is =
-    after-is ∙ rw (mark-is, before-is, counted-more, sweep-more)
-
--- a part of j words after k
-pub part : (s : List ℕ) (last n k j : ℕ) (w before after : Walk) → before ≡ walkFrom s last n k w →
-    after ≡ walkFrom s last (n + k) j before → after ≡ walkFrom s last n (k + j) w
-unfolding walkFrom
-part s last n k j w before after before-is after-is = after-is ∙ rw (before-is, counted-more, sweep-more)
+    part s last n k j w before after before-is (after-is ∙ ap (λ (m : ℕ). record { count = countedOf (before .count) last j; mark = m }) mark-is)
 
 -- ---- the number and the word of a mark
 kept-is : (low w : ℕ) → w < 128 → (low * 128 + w) / 128 ≡ low
@@ -264,7 +263,7 @@ up-to-is n fits = go (ltb n 104) refl
     go true e = refl
     go false e = omega (arith, fits, ltb-false n 104 e)
 
-pub up-to : (n : ℕ) → wordsUpTo n ≤ 104
+up-to : (n : ℕ) → wordsUpTo n ≤ 104
 unfolding wordsUpTo
 up-to n = go (ltb n 104) refl
   where
@@ -288,6 +287,19 @@ swept-is s n = go (not (eqb (length s) 416)) refl
     go : (b : Bool) → not (eqb (length s) 416) ≡ b → record { count = walkOf s n .count; kept = walkOf s n .mark / 128 } ≡ sweptOf s n
     go true e = rw e
     go false e = rw (e, counted-is n, sweep-is s n, number-kept s (wordsUpTo n) (up-to n))
+
+-- the walk over all words, after n of them
+pub on-the-way : (s : List ℕ) (n : ℕ) → n ≤ 104 →
+    (walkFrom s 104 1 n (record { count = 0; mark = 0 }) .count ≡ n) × (walkFrom s 104 1 n (record { count = 0; mark = 0 }) .mark / 128 ≡ lowestOf s n)
+unfolding walkFrom countedOf lowestOf anyShows
+on-the-way s n fits = (
+  rw (go (ltb 104 n) refl),
+  rw (sweep-marks s 104 0 n (omega (arith, fits)), zero-add, le-ltb 104 n fits) (number-kept s n fits),
+)
+  where
+    go : (b : Bool) → ltb 104 n ≡ b → cond b 104 (0 + n) ≡ n
+    go true e = absurd (omega (arith, fits, ltb-true 104 n e))
+    go false e = zero-add n
 
 -- over all words it keeps the refusal
 pub swept-refusal : (s : List ℕ) → sweptOf s 104 .kept ≡ frameRefusal s

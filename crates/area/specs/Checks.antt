@@ -75,6 +75,10 @@ unfoldable pub anyShows : ℕ → List ℕ → ℕ → Bool
 anyShows k s zero = false
 anyShows k s (suc n) = anyShows k s n || showsNo k s (suc n)
 
+-- the lowest of 2 to 5 that is shown, or 0
+abbrev pub lowestWhere : Bool → Bool → Bool → Bool → ℕ
+lowestWhere two three four five = cond two 2 (cond three 3 (cond four 4 (cond five 5 0)))
+
 -- 1: "The frame bytes are not exactly 416 long", and then 2 to 5, each tried on the whole frame before the next
 unfoldable pub frameRefusal : List ℕ → ℕ
 frameRefusal s =

@@ -4,7 +4,7 @@ use mathlib.Core.Path.{_≡_, refl}
 use mathlib.Core.Bool.{Bool, true, _&&_}
 use mathlib.Core.List.{List, [], _∷_, _++_}
 use Prim.Native.Nat.{ℕ, _+_, _-_}
-use lib.Dec.{T, eqb}
+use lib.Dec.{eqb}
 use lib.ListN.{length, getD}
 
 -- ---- a row: how a word is read; the most that a flag or kind may be; the flag word of the option that the word lies in and the word that
@@ -246,12 +246,15 @@ pub record Field : Type 0 where
 abbrev field : ℕ → List Row → Field
 field n rows = record { at = n; rows = rows }
 
--- a rectangle at word n, an animation at word n, a bar's response at word n
+-- a rectangle at word n, a range at word n, an animation at word n, a bar's response at word n
 abbrev pub rectAt : ℕ → List Row
 rectAt n = plain ∷ plain ∷ endOf n ∷ endOf (n + 1) ∷ []
 
+abbrev pub rangeAt : ℕ → List Row
+rangeAt n = plain ∷ endOf n ∷ []
+
 abbrev pub animationAt : ℕ → List Row
-animationAt n = pointsPerSecond ∷ plain ∷ endOf (n + 1) ∷ []
+animationAt n = pointsPerSecond ∷ rangeAt (n + 1)
 
 abbrev pub barAt : ℕ → List Row
 barAt n = flag ∷ flag ∷ flag ∷ inside (n + 2) plain ∷ inside (n + 2) plain ∷ []
@@ -262,8 +265,11 @@ optionAt n [] = []
 optionAt n (r ∷ rows) = inside n r ∷ optionAt n rows
 
 -- a target option at word n: range, align, animation
+abbrev pub targetRows : ℕ → List Row
+targetRows n = plain ∷ endOf (n + 1) ∷ kind 3 ∷ animationAt (n + 4)
+
 abbrev pub targetAt : ℕ → List Row
-targetAt n = flag ∷ optionAt n (plain ∷ endOf (n + 1) ∷ kind 3 ∷ animationAt (n + 4))
+targetAt n = flag ∷ optionAt n (targetRows n)
 
 abbrev settings : List Field
 settings =

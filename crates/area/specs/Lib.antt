@@ -6,8 +6,8 @@ pub mod State
 pub mod Layout
 pub mod Frame
 pub mod Checks
-pub mod Sweep
 pub mod Marks
+pub mod Sweep
 pub mod Geometry
 pub mod AxisPhysics
 pub mod Space

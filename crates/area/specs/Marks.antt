@@ -8,30 +8,29 @@ use lib.Dec.{eqb, ltb, leb}
 use lib.ListN.{length}
 use lib.Ieee.{binary32, binary64, ofBits}
 use Rattle.area.specs.declared.sweep.Walk.{Walk}
-use Rattle.area.specs.Layout.{Row, kind, plain, endOf, animationAt, rowNo}
-use Rattle.area.specs.Checks.{isHeeded, isShown, shows2, shows3, shows4, shows5}
+use Rattle.area.specs.Layout.{Row, rowNo}
+use Rattle.area.specs.Checks.{isHeeded, isShown, shows2, shows3, shows4, shows5, lowestWhere}
 
--- word n of a whole frame, at most word `last`
+-- word n of a whole frame, at most word `most`
 abbrev pub Within : List ℕ → ℕ → ℕ → Type 0
-Within s n last = (length s ≡ 416) × (0 < n) × (n ≤ last)
+Within s n most = (length s ≡ 416) × (0 < n) × (n ≤ most)
 
 -- ---- one word
 
 -- the lowest of 2 to 5 that word n shows if its row is r, or 0
 unfoldable pub shownBy : Row → List ℕ → ℕ → ℕ
 shownBy r s n =
-    cond (isHeeded s r && isShown 2 s n r) 2
-    (cond (isHeeded s r && isShown 3 s n r) 3
-    (cond (isHeeded s r && isShown 4 s n r) 4
-    (cond (isHeeded s r && isShown 5 s n r) 5 0)))
+    lowestWhere
+    (isHeeded s r && isShown 2 s n r)
+    (isHeeded s r && isShown 3 s n r)
+    (isHeeded s r && isShown 4 s n r)
+    (isHeeded s r && isShown 5 s n r)
 
--- the same of a word w outside options that is no half of the time, where `start` is the word that it may not be below
+-- the same of a word outside options that is not the time's high one: w and `start` are the values of the word and of its start
 unfoldable pub shownOf : Row → ℕ → ℕ → ℕ
 shownOf r w start =
-    cond (shows2 r w) 2
-    (cond (shows3 r (ofBits binary32 w) (ofBits binary64 0)) 3
-    (cond (shows4 r (ofBits binary32 w) (ofBits binary32 start)) 4
-    (cond (shows5 r (ofBits binary32 w)) 5 0)))
+    let x = ofBits binary32 w in
+    lowestWhere (shows2 r w) (shows3 r x (ofBits binary64 0)) (shows4 r x (ofBits binary32 start)) (shows5 r x)
 
 -- the lower of a mark and that of word n, which shows k, in a walk that ends after word `last`
 unfoldable pub keptAt : ℕ → ℕ → ℕ → ℕ → ℕ
@@ -57,14 +56,6 @@ sweepRows s last n (r ∷ rows) mark = sweepRows s last (n + 1) rows (keptWith m
 
 abbrev pub pairOf : Row → List Row
 pairOf r = r ∷ r ∷ []
-
--- a range at word n
-abbrev pub rangeAt : ℕ → List Row
-rangeAt n = plain ∷ endOf n ∷ []
-
--- the words of a target option whose flag is word n
-abbrev pub targetRows : ℕ → List Row
-targetRows n = plain ∷ endOf (n + 1) ∷ kind 3 ∷ animationAt (n + 4)
 
 -- ---- the count
 

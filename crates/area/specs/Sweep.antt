@@ -3,22 +3,19 @@
 use mathlib.Core.Bool.{true, cond, not}
 use mathlib.Core.List.{List}
 use mathlib.Core.Path.{_≡_}
-use Prim.Native.Nat.{ℕ, zero, suc, _<_, _≤_}
+use Prim.Native.Nat.{ℕ, zero, suc, _/_, _<_, _≤_}
 use lib.Dec.{eqb, ltb}
 use lib.ListN.{length}
 use Rattle.area.specs.declared.sweep.Swept.{Swept}
 use Rattle.area.specs.Frame.{wordNo}
-use Rattle.area.specs.Checks.{showsNo, anyShows, frameRefusal}
+use Rattle.area.specs.Checks.{showsNo, anyShows, lowestWhere, frameRefusal}
+use Rattle.area.specs.Marks.{walkFrom}
 
 -- the lowest of 2 to 5 that one of the first n words shows, or 0
 unfoldable pub lowestOf : List ℕ → ℕ → ℕ
-lowestOf s n =
-    cond (anyShows 2 s n) 2
-    (cond (anyShows 3 s n) 3
-    (cond (anyShows 4 s n) 4
-    (cond (anyShows 5 s n) 5 0)))
+lowestOf s n = lowestWhere (anyShows 2 s n) (anyShows 3 s n) (anyShows 4 s n) (anyShows 5 s n)
 
--- the first n words of a frame, or all of them where n is more
+-- how many the first n words of a frame are: n, or 104 where n is more
 unfoldable pub wordsUpTo : ℕ → ℕ
 wordsUpTo n = cond (ltb n 104) n 104
 
@@ -32,12 +29,18 @@ sweptOf s n =
 abbrev pub SameWords : List ℕ → List ℕ → ℕ → Type 0
 SameWords s t n = (m : ℕ) → 0 < m → m ≤ n → wordNo t m ≡ wordNo s m
 
+-- after n of its 104 words the walk over all of them has this count, and keeps this number
+abbrev pub StandsAt : List ℕ → ℕ → Swept → Type 0
+StandsAt s n r = let w = walkFrom s 104 1 n (record { count = 0; mark = 0 }) in (w .count ≡ r .count) × (w .mark / 128 ≡ r .kept)
+
 -- what holds of the walk over the first n words of a frame
 pub record SweepHolds (s : List ℕ) (n : ℕ) (r : Swept) : Type 0 where
   pub counts : length s ≡ 416 → n ≤ 104 → r .count ≡ n
   pub keeps : length s ≡ 416 → n ≤ 104 → r .kept ≡ lowestOf s n
   -- "these alone": every frame that begins with them shows the same
   pub alone : length s ≡ 416 → n ≤ 104 → (t : List ℕ) → SameWords s t n → r .kept ≡ lowestOf t n
+  -- the walk over all words, by which frames are refused, stands there after its first n words
+  pub on-the-way : length s ≡ 416 → n ≤ 104 → StandsAt s n r
   -- over all of them it keeps what the checks tell, each tried on the whole frame before the next
   pub refuses : n ≡ 104 → r .kept ≡ frameRefusal s
 

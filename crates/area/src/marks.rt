@@ -1,5 +1,5 @@
 // What one word shows, in the walk of checks 2 to 5. The walk keeps a mark, the number shown times 128 plus the number of the word, so that
-// the lower mark is the lower number and, of equal numbers, the earlier word; 0 is none. Words after word `last` are not taken.
+// the lower mark is the lower number and, of equal numbers, the earlier word; 0 is none. A word after word `last` is not kept.
 ghost use mathlib.Core.Path.{_≡_};
 ghost use mathlib.Core.Bool.{cond};
 ghost use Prim.Native.Nat.{_≤_, _<_};

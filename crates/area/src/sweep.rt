@@ -1,6 +1,6 @@
-// Checks 2 to 5 in one walk over the words of a frame: each is read once, in order, and counted, and the lowest number that they show is
-// kept. What a later word needs of an earlier one is carried along: an option's flag, the start of a range, both mins of a rectangle, the
-// time's low word. The word numbers stand in the code, so that all of it folds into loads and tests.
+// Checks 2 to 5 in one walk over the words of a frame: each is taken once, in order, and counted, and the lowest number that they show is
+// kept. No word is read twice: what a later one needs is carried along, an option's flag, the start of a range, both mins of a rectangle, the
+// time's low word. The words of an option that is off are counted unread. The word numbers stand in the code, so that all of it folds into loads and tests.
 ghost use mathlib.Core.Path.{_≡_};
 ghost use mathlib.Core.List.{[], _∷_};
 ghost use Prim.Native.Nat.{_+_};
@@ -8,6 +8,7 @@ ghost use lib.ListN.{length};
 ghost use Rattle.area.specs.Layout as At;
 ghost use Rattle.area.specs.Marks as Marks;
 ghost use Rattle.area.specs.Sweep as Spec;
+use crate::decode::time_at;
 use crate::decode::word_at;
 use crate::marks::decay_time;
 use crate::marks::end_of;
@@ -20,7 +21,6 @@ use crate::marks::size;
 use crate::marks::size_or_infinity;
 use crate::marks::stop_distance;
 use crate::marks::with_number;
-use numbers::f64_of_bits;
 
 // The walk after some words: how many they are, and the number kept.
 pub struct Swept {
@@ -41,9 +41,7 @@ fn time(mark: u32, last: u32, s: &[u8], n: u32) -> u32
     requires { ⌜ Marks.Within (now s) n 103 ⌝ }
     ensures { λ r. ⌜ r ≡ Marks.sweepRows (now (s .entry)) last n (At.bounded At.timeLow At.any ∷ At.bounded At.timeHigh At.any ∷ []) mark ⌝ }
 {
-    let low = word_at(s, n);
-    let high = word_at(s, n + 1);
-    let t = f64_of_bits((high as u64) * 4294967296 + (low as u64));
+    let t = time_at(s, n);
     with_number(
         mark,
         last,
@@ -100,7 +98,7 @@ fn rect(mark: u32, last: u32, s: &[u8], n: u32) -> u32
 
 fn range(mark: u32, last: u32, s: &[u8], n: u32) -> u32
     requires { ⌜ Marks.Within (now s) n 103 ⌝ }
-    ensures { λ r. ⌜ r ≡ Marks.sweepRows (now (s .entry)) last n (Marks.rangeAt n) mark ⌝ }
+    ensures { λ r. ⌜ r ≡ Marks.sweepRows (now (s .entry)) last n (At.rangeAt n) mark ⌝ }
 {
     let start = word_at(s, n);
     let mark = plain(mark, last, n, start);
@@ -172,7 +170,7 @@ fn maybe_target(mark: u32, last: u32, s: &[u8], n: u32) -> u32
 // The words after the flag n: range, align, animation.
 fn target(mark: u32, last: u32, s: &[u8], n: u32) -> u32
     requires { ⌜ Marks.Within (now s) n 98 ⌝ }
-    ensures { λ r. ⌜ r ≡ Marks.sweepRows (now (s .entry)) last (n + 1) (Marks.targetRows n) mark ⌝ }
+    ensures { λ r. ⌜ r ≡ Marks.sweepRows (now (s .entry)) last (n + 1) (At.targetRows n) mark ⌝ }
 {
     let mark = range(mark, last, s, n + 1);
     let mark = kind(mark, last, n + 3, word_at(s, n + 3), 3);
@@ -188,7 +186,7 @@ fn bar(mark: u32, last: u32, s: &[u8], n: u32) -> u32
     maybe_plains(mark, last, s, n + 2)
 }
 
-// ---- the parts of a frame, field by field as in specs/Layout.antt
+// ---- the parts of a frame, in the order of specs/Layout.antt
 
 // The walk after a field of so many words, ignored ones counted too, up to the last.
 fn took(walk: Walk, last: u32, words: u32, mark: u32) -> Walk

@@ -8,12 +8,12 @@ use native.Mathlib.Omega.{arith}
 use lib.Dec.{eqb}
 use lib.ListN.{length, set, replicate}
 use Rattle.area.specs.declared.sweep.Swept.{Swept}
-use Rattle.area.specs.Checks.{anyShows}
+use Rattle.area.specs.Checks.{anyShows, lowestWhere}
 use Rattle.area.specs.Sweep.{lowestOf, wordsUpTo, sweptOf}
 use Rattle.sweep.specs.Line.{digitAfter, digitsFrom}
 
 -- ---- one digit
-lowest-small : (a b c d : Bool) → cond a 2 (cond b 3 (cond c 4 (cond d 5 0))) < 8
+lowest-small : (a b c d : Bool) → lowestWhere a b c d < 8
 lowest-small true b c d = omega arith
 lowest-small false true c d = omega arith
 lowest-small false false true d = omega arith

@@ -1,6 +1,6 @@
 // A frame's line: the number kept after each of its words.
 ghost use mathlib.Core.Path.{_≡_};
-ghost use Prim.Native.Nat.{_+_, _<_};
+ghost use Prim.Native.Nat.{_<_};
 ghost use Rattle.sweep.specs.Line as Spec;
 
 pub fn line_of(frame: &[u8]) -> [u8; 105]

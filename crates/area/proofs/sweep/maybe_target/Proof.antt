@@ -2,7 +2,8 @@ use mathlib.Core.Path.{refl}
 use native.Mathlib.Omega.{arith}
 use borrow.Author.Needs.{needs}
 use Rattle.area.specs.Checks.{isHeeded}
-use Rattle.area.specs.Marks.{sweepRows, targetRows}
+use Rattle.area.specs.Marks.{sweepRows}
+use Rattle.area.specs.Layout.{targetRows}
 use Rattle.area.proofs.SweepLaws.{with-on, with-off}
 use Rattle.area.proofs.sweep.maybe_target.Statement.{statement}
 use Rattle.area.proofs.sweep.maybe_target.Tie as tie
