@@ -90,7 +90,8 @@ uint32_t strakobud_frame(uint8_t state[STRAKOBUD_STATE_BYTES], const uint8_t *fr
 /* Which word made a frame bad. Checks 2 to 5 go over the words once, in order, and keep the lowest number that the words so
  * far show; this is the number of the first word, from 1 to 104, after which that is the frame's refusal, and the word
  * itself shows it. An end below its start is at the end's word, a time outside its range at word 53. 0 where 2 to 5 do not
- * refuse the frame: it passes them, or is not 416 bytes long. The state is not asked: 6 to 8 have no word. */
+ * refuse the frame: it passes them, or is not 416 bytes long. The state is not asked, and 6 to 9 have no word; nor has a 3
+ * from inside a settling run, which is about the run's own time. */
 uint32_t strakobud_bad_word(const uint8_t *frame, size_t len);
 
 /* A maker's own decay table: 1,025 numbers of 64 bits, the lowest byte first, by which a coasting list slows in the place

@@ -1,4 +1,5 @@
--- What the functions of the walk do, word by word and field by field: for the proof of src/marks.rt and src/sweep.rt alone.
+-- What the functions of the walk do, word by word and field by field: for the proof of src/marks.rt and src/sweep.rt, and for `on-the-way`
+-- in Sweep.antt.
 -- A mark is the number that a word shows times 128, plus the word's own number; 0 is none.
 use mathlib.Core.Path.{_≡_}
 use mathlib.Core.Bool.{cond, not, _&&_}
