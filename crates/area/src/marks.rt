@@ -57,7 +57,7 @@ pub fn with_number(mark: u32, last: u32, n: u32, exceeds: bool, outside: bool, k
     mark
 }
 
-// With word n, a number that may not be negative. By its bits it is from 0 to the limit, 0x49800000, at once, as most are.
+// With word n, a number that may not be negative. Most words pass by their bits at once: up to 0x49800000 they are numbers from 0 to the limit.
 fn not_negative(mark: u32, last: u32, n: u32, word: u32, k: u32) -> u32
     requires { ⌜ (n ≤ 104) × (0 < k) × (k ≤ 5) ⌝ }
     ensures { λ r. ⌜ r ≡ Spec.keptWith mark last n (cond (exceedsLimit (ofBits binary32 word)) 3 (cond (lt (ofBits binary32 word) zero) k 0)) ⌝ }
