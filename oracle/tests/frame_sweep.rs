@@ -1,24 +1,9 @@
 //! What is kept after each word, on frames written down by hand.
 
 use oracle::frame_checks::{bad_word, frame_refusal, kept_after, sweep_line};
-use oracle::frame_vectors::{bare, example, full, Frame};
+use oracle::frame_vectors::{bare, example, full, Frame, PAIRS};
 use oracle::sweep_vectors::{fixed_list, random_list};
 use oracle::words::from_bytes;
-
-/// The earlier and the later word of each pair.
-const PAIRS: [(usize, usize); 11] = [
-    (11, 13),
-    (12, 14),
-    (40, 42),
-    (41, 43),
-    (44, 46),
-    (45, 47),
-    (89, 90),
-    (92, 93),
-    (96, 97),
-    (99, 100),
-    (103, 104),
-];
 
 /// Each option's flag and last word.
 const OPTIONS: [(usize, usize); 8] = [

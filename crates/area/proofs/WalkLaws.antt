@@ -249,7 +249,7 @@ kept-is low w h = omega (arith, h)
 word-is : (low w : ℕ) → w < 128 → (low * 128 + w) % 128 ≡ w
 word-is low w h = omega (arith, h)
 
-pub number-kept : (s : List ℕ) (n : ℕ) → n ≤ 104 → markAfter s n / 128 ≡ lowestOf s n
+number-kept : (s : List ℕ) (n : ℕ) → n ≤ 104 → markAfter s n / 128 ≡ lowestOf s n
 number-kept s n fits = kept-is (lowestOf s n) (since s n) (omega (arith, since-within s n, fits))
 
 pub word-kept : (s : List ℕ) (n : ℕ) → n ≤ 104 → markAfter s n % 128 ≡ since s n

@@ -1,6 +1,7 @@
 // Checks 2 to 5 in one walk over the words of a frame: each is taken once, in order, and counted, and the lowest number that they show is
 // kept. No word is read twice: what a later one needs is carried along, an option's flag, the start of a range, both mins of a rectangle, the
-// time's low word. The words of an option that is off are counted unread. The word numbers stand in the code, so that all of it folds into loads and tests.
+// time's low word. The words of an option that is off are counted unread. The word numbers stand in the code, so that all of it folds into
+// loads and tests.
 ghost use mathlib.Core.Path.{_≡_};
 ghost use mathlib.Core.List.{[], _∷_};
 ghost use Prim.Native.Nat.{_+_};

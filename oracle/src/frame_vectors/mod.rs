@@ -24,6 +24,7 @@ use crate::words::in_bytes;
 pub use fixed::fixed_list;
 pub use frame::Frame;
 pub use good::{bare, example, full};
+pub use places::PAIRS;
 pub(crate) use random::good_frame;
 pub use random::{random_list, random_state};
 
