@@ -3,6 +3,7 @@ use mathlib.Core.Path.{_≡_, refl, sym, ap, _∙_}
 use mathlib.Core.Bool.{Bool, true, false, cond, not, _&&_, true≢false, false≢true}
 use mathlib.Core.List.{List}
 use Prim.Native.Nat.{ℕ}
+use native.Mathlib.Omega.{arith}
 use borrow.Author.Tests.{eqb-true, eq-eqb}
 use lib.Dec.{eqb}
 use lib.Ieee.{Float}
@@ -10,7 +11,10 @@ use lib.ListN.{length}
 use Rattle.numbers.specs.Table.{Table}
 use Rattle.numbers.specs.Scalar.{isFinite}
 use Rattle.area.specs.Pair.{num}
-use Rattle.area.specs.Checks.{frameRefusal, stateRefusal, refusalOf, isPairFinite, areTargetsFinite, arePressesFinite, isRectFinite, isStateFinite}
+use Rattle.area.specs.Layout as At
+use Rattle.area.specs.Frame.{timeNo, hostOf, frameOf}
+use Rattle.area.specs.Clock.{isBack, clockRefusal}
+use Rattle.area.specs.Checks.{frameRefusal, stateRefusal, refusalOf, refusalBefore7, isPairFinite, areTargetsFinite, arePressesFinite, isRectFinite, isStateFinite}
 use Rattle.area.specs.End.{isPressBlocked}
 use Rattle.area.specs.PutOut.{nextState, outcomeOf, answerOf}
 use Rattle.area.specs.Outcome.{refusedOf, isOutcomeFinite, isAnswerFinite}
@@ -18,11 +22,12 @@ use Rattle.area.specs.Call.{runOf, callUnder}
 use Rattle.area.specs.Steps.{begunAt, endedAt, outputsAt, checkAt, stepAt, isAccepted}
 use Rattle.area.specs.Moved.{endedOn, extentOn}
 use Rattle.area.specs.declared.state.State.{State}
+use Rattle.area.specs.declared.frame.Frame.{Frame}
 use Rattle.area.specs.declared.end.Ended.{Ended}
 use Rattle.area.specs.declared.outcome.Answer.{Answer}
-use Rattle.area.proofs.TestLaws.{and-left, and-right}
+use Rattle.area.proofs.TestLaws.{and-left, and-right, both-zero}
 
--- ---- with the first refusal r of checks 1 to 6, whether a press is blocked, and whether what is put out is finite
+-- ---- with the first refusal r of checks 1 to 6 and 12, whether a press is blocked, and whether what is put out is finite
 
 -- the frame call, and document 01's steps
 abbrev pub called : State → Answer → ℕ → Bool → Bool → Bool → Answer
@@ -71,11 +76,23 @@ whole-of S bytes r e a = eqb-true (length bytes) 416 (whole-by (eqb (length byte
 pub whole-if-passed : (S : State) (bytes : List ℕ) → refusalOf bytes S ≡ 0 → length bytes ≡ 416
 whole-if-passed S bytes h = whole-of S bytes (refusalOf bytes S) refl (eq-eqb (refusalOf bytes S) 0 h)
 
+-- and passes 1 to 6, and is in time
+not-back : (t : Bool) → cond {A = ℕ} t 12 0 ≡ 0 → t ≡ false
+not-back true h = absurd (omega (arith, h))
+not-back false h = refl
+
+passed-before-7 : (S : State) (bytes : List ℕ) → refusalBefore7 bytes S ≡ 0 → (refusalOf bytes S ≡ 0) × (isBack bytes S ≡ false)
+unfolding refusalBefore7 clockRefusal
+passed-before-7 S bytes h = let both = both-zero (refusalOf bytes S) (clockRefusal bytes S) _ refl h in (both .0, not-back (isBack bytes S) (both .1))
+
+pub whole-before-7 : (S : State) (bytes : List ℕ) (r : ℕ) → r ≡ refusalBefore7 bytes S → eqb r 0 ≡ true → length bytes ≡ 416
+whole-before-7 S bytes r e a = whole-if-passed S bytes (passed-before-7 S bytes (sym e ∙ eqb-true r 0 a) .0)
+
 -- "answers and state equal document 01's steps"
 pub step-is-call : (table : Table) (S : State) (bytes : List ℕ) → stepAt table S bytes ≡ callUnder table S bytes
 unfolding stepAt checkAt outputsAt endedAt begunAt callUnder runOf
 step-is-call table S bytes =
-    same-by S (outputsAt table S bytes) (refusalOf bytes S) (eqb (refusalOf bytes S) 0) (isPressBlocked (endedAt table S bytes))
+    same-by S (outputsAt table S bytes) (refusalBefore7 bytes S) (eqb (refusalBefore7 bytes S) 0) (isPressBlocked (endedAt table S bytes))
     (isAnswerFinite (outputsAt table S bytes)) refl
 
 -- "A refusal returns the state as given"
@@ -86,7 +103,7 @@ outputs-accepted table S bytes = refl
 call-refused : (table : Table) (S : State) (bytes : List ℕ) → isAccepted (callUnder table S bytes) ≡ false → callUnder table S bytes .state ≡ S
 unfolding outputsAt endedAt begunAt callUnder runOf
 call-refused table S bytes a =
-    refused-by S (outputsAt table S bytes) (refusalOf bytes S) (eqb (refusalOf bytes S) 0) (isPressBlocked (endedAt table S bytes))
+    refused-by S (outputsAt table S bytes) (refusalBefore7 bytes S) (eqb (refusalBefore7 bytes S) 0) (isPressBlocked (endedAt table S bytes))
     (isAnswerFinite (outputsAt table S bytes)) (outputs-accepted table S bytes) a
 
 pub refusal-keeps : (table : Table) (S : State) (bytes : List ℕ) → isAccepted (stepAt table S bytes) ≡ false → stepAt table S bytes .state ≡ S
@@ -100,59 +117,78 @@ pub record IsFiniteOn (e : Ended) (d : ℕ) : Type 0 where
   pub maximum : isFinite (extentOn e d .«max_offset») ≡ true
 
 pub record Accepted (table : Table) (S : State) (bytes : List ℕ) : Type 0 where
-  pub state : stepAt table S bytes .state ≡ nextState (endedAt table S bytes)
+  pub state : stepAt table S bytes .state ≡ nextState (frameOf bytes) (endedAt table S bytes)
   pub unrefused : refusalOf bytes S ≡ 0
-  pub finite : isStateFinite (nextState (endedAt table S bytes)) ≡ true
+  pub in-time : isBack bytes S ≡ false
+  pub remembers : stepAt table S bytes .state .«remembered_time» ≡ timeNo bytes At.time
+  pub time-finite : isFinite (timeNo bytes At.time) ≡ true
+  pub finite : isStateFinite (nextState (frameOf bytes) (endedAt table S bytes)) ≡ true
   pub x : IsFiniteOn (endedAt table S bytes) 0
   pub y : IsFiniteOn (endedAt table S bytes) 1
 
-first-two : (a b c d e f : Bool) → (a && b && c && d && e && f) ≡ true → (a ≡ true) × (b ≡ true)
-first-two true true c d e f h = (refl, refl)
-first-two true false c d e f h = absurd (false≢true h)
-first-two false b c d e f h = absurd (false≢true h)
+first-two : (a b c d e f g : Bool) → (a && b && c && d && e && f && g) ≡ true → (a ≡ true) × (b ≡ true)
+first-two true true c d e f g h = (refl, refl)
+first-two true false c d e f g h = absurd (false≢true h)
+first-two false b c d e f g h = absurd (false≢true h)
 
 offsets-finite : (t : State) → isStateFinite t ≡ true → (isPairFinite (t .offset) ≡ true) × (isPairFinite (t .«max_offset») ≡ true)
 unfolding isStateFinite
 offsets-finite t h =
     first-two (isPairFinite (t .offset)) (isPairFinite (t .«max_offset»)) (areTargetsFinite (t .«offset_target»)) (isPairFinite (t .vel))
-    (arePressesFinite (t .«scroll_start_offset_from_top_left»)) (isRectFinite (t .«interact_rect»)) h
+    (arePressesFinite (t .«scroll_start_offset_from_top_left»)) (isRectFinite (t .«interact_rect»)) (isFinite (t .«remembered_time»)) h
+
+remembered-finite : (t : State) → isStateFinite t ≡ true → isFinite (t .«remembered_time») ≡ true
+unfolding isStateFinite
+remembered-finite t h =
+    and-right (isPairFinite (t .offset) && isPairFinite (t .«max_offset») && areTargetsFinite (t .«offset_target») && isPairFinite (t .vel)
+    && arePressesFinite (t .«scroll_start_offset_from_top_left») && isRectFinite (t .«interact_rect»)) (isFinite (t .«remembered_time»)) h
 
 pair-finite : (v : List Float) → isPairFinite v ≡ true → (isFinite (num v 0) ≡ true) × (isFinite (num v 1) ≡ true)
 unfolding isPairFinite
 pair-finite v h = (and-left (isFinite (num v 0)) (isFinite (num v 1)) h, and-right (isFinite (num v 0)) (isFinite (num v 1)) h)
 
-ended-finite : (e : Ended) → isStateFinite (nextState e) ≡ true → IsFiniteOn e 0 × IsFiniteOn e 1
+ended-finite : (f : Frame) (e : Ended) → isStateFinite (nextState f e) ≡ true → IsFiniteOn e 0 × IsFiniteOn e 1
 unfolding nextState
-ended-finite e h =
-    let both = offsets-finite (nextState e) h in
-    let offset = pair-finite (nextState e .offset) (both .0) in
-    let maximum = pair-finite (nextState e .«max_offset») (both .1) in
+ended-finite f e h =
+    let both = offsets-finite (nextState f e) h in
+    let offset = pair-finite (nextState f e .offset) (both .0) in
+    let maximum = pair-finite (nextState f e .«max_offset») (both .1) in
     (record { offset = offset .0; maximum = maximum .0 }, record { offset = offset .1; maximum = maximum .1 })
 
 outputs-finite : (table : Table) (S : State) (bytes : List ℕ) → isAnswerFinite (outputsAt table S bytes) ≡ true
-    → isStateFinite (nextState (endedAt table S bytes)) ≡ true
+    → isStateFinite (nextState (frameOf bytes) (endedAt table S bytes)) ≡ true
 unfolding isAnswerFinite outputsAt answerOf
 outputs-finite table S bytes h = and-left (isStateFinite (outputsAt table S bytes .state)) (isOutcomeFinite (outputsAt table S bytes .outcome)) h
 
-outputs-state : (table : Table) (S : State) (bytes : List ℕ) → outputsAt table S bytes .state ≡ nextState (endedAt table S bytes)
+outputs-state : (table : Table) (S : State) (bytes : List ℕ) → outputsAt table S bytes .state ≡ nextState (frameOf bytes) (endedAt table S bytes)
 unfolding outputsAt answerOf
 outputs-state table S bytes = refl
 
+time-stored : (bytes : List ℕ) (e : Ended) → nextState (frameOf bytes) e .«remembered_time» ≡ timeNo bytes At.time
+unfolding nextState frameOf hostOf
+time-stored bytes e = refl
+
 call-accepted : (table : Table) (S : State) (bytes : List ℕ) → isAccepted (callUnder table S bytes) ≡ true
-    → (callUnder table S bytes ≡ outputsAt table S bytes) × (isAnswerFinite (outputsAt table S bytes) ≡ true) × (refusalOf bytes S ≡ 0)
+    → (callUnder table S bytes ≡ outputsAt table S bytes) × (isAnswerFinite (outputsAt table S bytes) ≡ true) × (refusalBefore7 bytes S ≡ 0)
 unfolding outputsAt endedAt begunAt callUnder runOf
 call-accepted table S bytes a =
-    accepted-by S (outputsAt table S bytes) (refusalOf bytes S) (eqb (refusalOf bytes S) 0) (isPressBlocked (endedAt table S bytes))
+    accepted-by S (outputsAt table S bytes) (refusalBefore7 bytes S) (eqb (refusalBefore7 bytes S) 0) (isPressBlocked (endedAt table S bytes))
     (isAnswerFinite (outputsAt table S bytes)) refl a
 
 pub accepted : (table : Table) (S : State) (bytes : List ℕ) → isAccepted (stepAt table S bytes) ≡ true → Accepted table S bytes
 accepted table S bytes a =
     let c = call-accepted table S bytes (rw step-is-call at a) in
     let finite = outputs-finite table S bytes (c .1) in
-    let n = ended-finite (endedAt table S bytes) finite in
+    let n = ended-finite (frameOf bytes) (endedAt table S bytes) finite in
+    let passed = passed-before-7 S bytes (c .2) in
+    let is = ap (λ (r : Answer). r .state) (step-is-call table S bytes ∙ c .0) ∙ outputs-state table S bytes in
+    let time = time-stored bytes (endedAt table S bytes) in
     record {
-      state = ap (λ (r : Answer). r .state) (step-is-call table S bytes ∙ c .0) ∙ outputs-state table S bytes;
-      unrefused = c .2;
+      state = is;
+      unrefused = passed .0;
+      in-time = passed .1;
+      remembers = ap (λ (s : State). s .«remembered_time») is ∙ time;
+      time-finite = ap isFinite (sym time) ∙ remembered-finite (nextState (frameOf bytes) (endedAt table S bytes)) finite;
       finite = finite;
       x = n .0;
       y = n .1;

@@ -1,18 +1,20 @@
--- The frame call on a frame inside a settling run: it names no move, is refused with 3 where its time is late, and otherwise with 8 alone.
+-- The frame call on a frame inside a settling run: it names no move, is refused with 3 where its time is late, with 12 where the clock has run
+-- back, which it has not after the first one, and otherwise with 8 alone.
 -- Assumes nothing.
 use Prim.Native.Nat.{ℕ}
 use mathlib.Core.Path.{_≡_, refl, sym, ap, _∙_}
-use mathlib.Core.Bool.{Bool, true, false, cond, _||_}
+use mathlib.Core.Bool.{Bool, true, false, cond, not, _&&_, _||_}
 use mathlib.Core.List.{List}
 use native.Mathlib.Omega.{arith}
 use borrow.Author.Tests.{eqb-true}
 use lib.Dec.{eqb}
-use lib.Ieee.{Float}
+use lib.Ieee.{Float, lt}
 use lib.ListN.{length}
 use Rattle.numbers.specs.Table.{Table}
 use Rattle.area.specs.Layout as At
 use Rattle.area.specs.Frame.{timeNo}
-use Rattle.area.specs.Checks.{isTimeOutside, frameRefusal, isStateFinite, stateRefusal, refusalOf}
+use Rattle.area.specs.Clock.{isBack, clockRefusal}
+use Rattle.area.specs.Checks.{isTimeOutside, frameRefusal, isStateFinite, stateRefusal, refusalOf, refusalBefore7}
 use Rattle.area.specs.Outcome.{refusedOf, isAnswerFinite}
 use Rattle.area.specs.Call.{runOf, callUnder}
 use Rattle.area.specs.Steps.{begunAt, endedAt, outputsAt, stepAt, isAccepted}
@@ -20,11 +22,12 @@ use Rattle.area.specs.Moved.{isMovedByWords}
 use Rattle.area.specs.SettlingRun.{isNoLimit, isNoIncrement, runRefusal, settleRefusal, advanced, isInside, FrameInside}
 use Rattle.area.specs.declared.state.State.{State}
 use Rattle.area.specs.declared.outcome.Answer.{Answer}
-use Rattle.area.proofs.TestLaws.{not-left, not-right}
+use Rattle.area.proofs.TestLaws.{not-left, not-right, fails-right}
 use Rattle.area.proofs.CallLaws.{called, step-is-call, outputs-accepted, accepted, whole-if-passed}
 use Rattle.area.proofs.PassedLaws.{unrefused, passed-time}
 use Rattle.area.proofs.MovedLaws.{unblocked}
 use Rattle.area.proofs.AdvancedLaws.{advanced-whole, moves-alike, late-alone}
+use Rattle.area.proofs.TimeLaws.{next-not-less}
 use Rattle.area.proofs.SettlingRunLaws.{passes-first}
 
 abbrev pub isLate : List ℕ → Bool
@@ -50,6 +53,13 @@ inner-next table increment S bytes i a =
       still = (moves 0 ∙ i .still .0, moves 1 ∙ i .still .1);
     }
 
+-- whose time is not less than the one that is remembered then
+pub next-in-time : (table : Table) (increment : Float) (S : State) (bytes : List ℕ) → isNoIncrement increment ≡ false → Inner S bytes
+    → isAccepted (stepAt table S bytes) ≡ true → isBack (advanced increment bytes) (stepAt table S bytes .state) ≡ false
+next-in-time table increment S bytes some i a =
+    let is = accepted table S bytes a in
+    ap (lt (timeNo (advanced increment bytes) At.time)) (is .remembers) ∙ next-not-less increment bytes (i .whole) some (is .time-finite)
+
 -- the first one, which nothing turns back up front
 state-passes : (S : State) → stateRefusal S ≡ 0 → isStateFinite S ≡ true
 unfolding stateRefusal
@@ -59,8 +69,10 @@ state-passes S h = by (isStateFinite S) h
     by true h = refl
     by false h = absurd (omega (arith, h))
 
-still-by : (a b x y : Bool) → cond {A = ℕ} (a || b || x || y) 9 0 ≡ 0 → (x ≡ false) × (y ≡ false)
-still-by a b x y h = (not-right (a || b) x (not-left (a || b || x) y none), not-right (a || b || x) y none)
+still-by : (a b x y : Bool) → cond {A = ℕ} (a || b || x || y) 9 0 ≡ 0 → (b ≡ false) × (x ≡ false) × (y ≡ false)
+still-by a b x y h =
+    let limits = not-left (a || b || x) y none in
+    (not-right a b (not-left (a || b) x limits), not-right (a || b) x limits, not-right (a || b || x) y none)
   where
     nine : (t : Bool) → cond {A = ℕ} t 9 0 ≡ 0 → t ≡ false
     nine true h = absurd (omega (arith, h))
@@ -72,45 +84,70 @@ still-by a b x y h = (not-right (a || b) x (not-left (a || b || x) y none), not-
 pub early-first : (S : State) (bytes : List ℕ) (increment : Float) (limit : ℕ) → settleRefusal S bytes increment limit ≡ 0 → isLate bytes ≡ false
 early-first S bytes increment limit h = passed-time bytes (unrefused bytes S (passes-first S bytes increment limit h .0) .0)
 
-pub inner-first : (S : State) (bytes : List ℕ) (increment : Float) (limit : ℕ) → settleRefusal S bytes increment limit ≡ 0 → Inner S bytes
+passes-nine : (bytes : List ℕ) (increment : Float) (limit : ℕ) → runRefusal bytes increment limit ≡ 0
+    → (isNoIncrement increment ≡ false) × (isMovedByWords bytes 0 ≡ false) × (isMovedByWords bytes 1 ≡ false)
 unfolding runRefusal
+passes-nine bytes increment limit h = still-by (isNoLimit limit) (isNoIncrement increment) (isMovedByWords bytes 0) (isMovedByWords bytes 1) h
+
+pub some-increment : (S : State) (bytes : List ℕ) (increment : Float) (limit : ℕ) → settleRefusal S bytes increment limit ≡ 0
+    → isNoIncrement increment ≡ false
+some-increment S bytes increment limit h = passes-nine bytes increment limit (passes-first S bytes increment limit h .1) .0
+
+pub inner-first : (S : State) (bytes : List ℕ) (increment : Float) (limit : ℕ) → settleRefusal S bytes increment limit ≡ 0 → Inner S bytes
 inner-first S bytes increment limit h =
     let first = passes-first S bytes increment limit h in
     let passes = unrefused bytes S (first .0) in
+    let nine = passes-nine bytes increment limit (first .1) in
     record {
       whole = whole-if-passed S bytes (first .0);
       shows = passes .0 ∙ sym (ap (λ (t : Bool). cond t 3 0) (early-first S bytes increment limit h));
       finite = state-passes S (passes .1);
-      still = still-by (isNoLimit limit) (isNoIncrement increment) (isMovedByWords bytes 0) (isMovedByWords bytes 1) (first .1);
+      still = (nine .1, nine .2);
     }
 
--- ---- so each is refused with 3 exactly where it is late, and otherwise with 8 alone
-refusal-by : (late : Bool) (k state : ℕ) → k ≡ cond late 3 0 → state ≡ 0 → cond (eqb k 0) state k ≡ cond late 3 0
-refusal-by true k state e z = ap (λ (n : ℕ). cond (eqb n 0) state n) e
-refusal-by false k state e z = ap (λ (n : ℕ). cond (eqb n 0) state n) e ∙ z
+-- ---- so each is refused with 3 exactly where it is late, with 12 where it is not but the clock has run back, and otherwise with 8 alone
+refusal-by : (late : Bool) (k state clock : ℕ) → k ≡ cond late 3 0 → state ≡ clock → cond (eqb k 0) state k ≡ cond late 3 clock
+refusal-by true k state clock e z = ap (λ (n : ℕ). cond (eqb n 0) state n) e
+refusal-by false k state clock e z = ap (λ (n : ℕ). cond (eqb n 0) state n) e ∙ z
 
-inner-refusal : (S : State) (bytes : List ℕ) → Inner S bytes → refusalOf bytes S ≡ cond (isLate bytes) 3 0
-unfolding refusalOf stateRefusal
-inner-refusal S bytes i = refusal-by (isLate bytes) (frameRefusal bytes) (stateRefusal S) (i .shows) (rw (i .finite))
+abbrev refusalInside : Bool → Bool → ℕ
+refusalInside late back = cond late 3 (cond back 12 0)
 
-abbrev Refused : Bool → ℕ → Type 0
-Refused late refusal = (isInside refusal ≡ true) × (eqb refusal 3 ≡ late)
+inner-refusal : (S : State) (bytes : List ℕ) → Inner S bytes → refusalBefore7 bytes S ≡ refusalInside (isLate bytes) (isBack bytes S)
+unfolding refusalOf stateRefusal refusalBefore7 clockRefusal
+inner-refusal S bytes i =
+    let passes = refusal-by (isLate bytes) (frameRefusal bytes) (stateRefusal S) 0 (i .shows) (rw (i .finite)) in
+    refusal-by (isLate bytes) (refusalOf bytes S) (clockRefusal bytes S) (cond (isBack bytes S) 12 0) passes refl
 
-refused-by : (S : State) (outputs : Answer) (late finite : Bool) → isAccepted outputs ≡ true
-    → Refused late (called S outputs (cond late 3 0) (eqb (cond late 3 0) 0) false finite .outcome .refusal)
+abbrev Refused : Bool → Bool → ℕ → Type 0
+Refused late back refusal = (isInside refusal ≡ true) × (eqb refusal 3 ≡ late) × (eqb refusal 12 ≡ (not late && back))
+
+refused-by : (S : State) (outputs : Answer) (late back finite : Bool) → isAccepted outputs ≡ true
+    → Refused late back (called S outputs (refusalInside late back) (eqb (refusalInside late back) 0) false finite .outcome .refusal)
 unfolding refusedOf
-refused-by S outputs true finite o = (refl, refl)
-refused-by S outputs false true o =
-    let none = eqb-true (outputs .outcome .refusal) 0 o in (ap isInside none, ap (λ (n : ℕ). eqb n 3) none)
-refused-by S outputs false false o = (refl, refl)
+refused-by S outputs true back finite o = (refl, refl, refl)
+refused-by S outputs false true finite o = (refl, refl, refl)
+refused-by S outputs false false true o =
+    let none = eqb-true (outputs .outcome .refusal) 0 o in (ap isInside none, ap (λ (n : ℕ). eqb n 3) none, ap (λ (n : ℕ). eqb n 12) none)
+refused-by S outputs false false false o = (refl, refl, refl)
 
-inner-refused : (table : Table) (S : State) (bytes : List ℕ) → Inner S bytes → Refused (isLate bytes) (stepAt table S bytes .outcome .refusal)
+inner-refused : (table : Table) (S : State) (bytes : List ℕ) → Inner S bytes
+    → Refused (isLate bytes) (isBack bytes S) (stepAt table S bytes .outcome .refusal)
 unfolding outputsAt endedAt begunAt callUnder runOf
 inner-refused table S bytes i =
     rw (step-is-call table S bytes, inner-refusal S bytes i, unblocked table S bytes (i .still .0) (i .still .1))
-    (refused-by S (outputsAt table S bytes) (isLate bytes) (isAnswerFinite (outputsAt table S bytes)) (outputs-accepted table S bytes))
+    (refused-by S (outputsAt table S bytes) (isLate bytes) (isBack bytes S) (isAnswerFinite (outputsAt table S bytes)) (outputs-accepted table S bytes))
 
-pub frame-inside : (table : Table) (S : State) (bytes : List ℕ) → Inner S bytes → FrameInside S (record { table = table; bytes = bytes })
+-- with 12 where it is not late and the clock has run back
+pub back-inside : (table : Table) (S : State) (bytes : List ℕ) → Inner S bytes → isLate bytes ≡ false
+    → eqb (stepAt table S bytes .outcome .refusal) 12 ≡ isBack bytes S
+back-inside table S bytes i early = inner-refused table S bytes i .2 ∙ ap (λ (t : Bool). not t && isBack bytes S) early
+
+-- not where it has not
+pub no-12 : (table : Table) (S : State) (bytes : List ℕ) → Inner S bytes → isBack bytes S ≡ false → eqb (stepAt table S bytes .outcome .refusal) 12 ≡ false
+no-12 table S bytes i forward = inner-refused table S bytes i .2 ∙ fails-right (not (isLate bytes)) (isBack bytes S) forward
+
+pub frame-inside : (table : Table) (S : State) (bytes : List ℕ) → Inner S bytes → FrameInside table S bytes
 frame-inside table S bytes i =
     let refused = inner-refused table S bytes i in
     record { unmoved = i .still; refused = refused .0; late = refused .1 }

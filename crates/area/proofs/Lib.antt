@@ -19,8 +19,10 @@ pub mod MovedLaws
 pub mod WithoutInputLaws
 pub mod SettlingRunLaws
 pub mod AdvancedLaws
+pub mod TimeLaws
 pub mod InsideLaws
 pub mod RunLaws
+pub mod ClockLaws
 pub mod ListingLaws
 pub mod ListLaws
 pub mod ReplayLaws

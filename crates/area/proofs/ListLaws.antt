@@ -1,15 +1,17 @@
 -- "one claim about the whole list, not one for each call": each law of one frame, carried along a list. Assumes nothing.
 use mathlib.Core.Path.{_≡_, refl, sym, ap, subst, _∙_}
-use mathlib.Core.Bool.{Bool, true}
+use mathlib.Core.Bool.{Bool, true, false, true≢false}
 use mathlib.Core.List.{List, [], _∷_, _++_}
 use Prim.Native.Nat.{ℕ}
 use Rattle.numbers.specs.Table.{Table}
 use Rattle.area.specs.Pair.{flag}
 use Rattle.area.specs.State.{default}
-use Rattle.area.specs.Steps.{Fed, stepAt, stepFed, stateFrom, isAccepted, acceptedFrom}
+use Rattle.area.specs.Clock.{resetOf}
+use Rattle.area.specs.Steps.{Fed, fedFrame, fedReset, stepAt, stateAfter, stateFrom, isTaken, acceptedFrom}
 use Rattle.area.specs.Moved.{isMoved, isMovedByWords}
 use Rattle.area.specs.SettlingRun.{framesOf, settledBy}
-use Rattle.area.specs.Lists.{Call, byValue, lent, settle, Told, ofFrame, ofRun, Run, ends, returned, left, settled, feedFrom, toldFrom}
+use Rattle.area.specs.Lists.{Call, byValue, lent, settle, reset, Told, ofFrame, ofRun, ofReset}
+use Rattle.area.specs.Lists.{Run, ends, returned, left, settled, cleared, feedFrom, toldFrom}
 use Rattle.area.specs.Lists.{RangeAlong, EndAlong, DistancesAlong, Whole, AllLists}
 use Rattle.area.specs.declared.state.State.{State}
 use Rattle.area.specs.declared.outcome.Answer.{Answer}
@@ -20,6 +22,7 @@ use Rattle.area.proofs.RangeLaws.{in-range}
 use Rattle.area.proofs.EndLaws.{StaysOnEnd, stays-x, stays-y}
 use Rattle.area.proofs.MovedLaws.{stays-by-words-x, stays-by-words-y}
 use Rattle.area.proofs.RunLaws.{run-holds}
+use Rattle.area.proofs.ClockLaws.{clock-along}
 use Rattle.area.proofs.ListingLaws.{listing-shown}
 
 -- ---- "answers and state equal document 01's steps"
@@ -27,7 +30,7 @@ use Rattle.area.proofs.ListingLaws.{listing-shown}
 -- the steps on frames, and then on others
 pub state-after : (S : State) (frames others : List Fed) → stateFrom S (frames ++ others) ≡ stateFrom (stateFrom S frames) others
 state-after S [] others = refl
-state-after S (fed ∷ frames) others = state-after (stepFed S fed .state) frames others
+state-after S (fed ∷ frames) others = state-after (stateAfter S fed) frames others
 
 record Same (s : State) (calls : List Call) (answers : List Told) (t : State) : Type 0 where
   pub answers-same : answers ≡ toldFrom s calls
@@ -52,6 +55,9 @@ same (settled {table} {s} {bytes} {increment} {limit} {r} {calls} {answers} {t} 
       answers-same = λ i. ofRun (is-run i) ∷ rest .answers-same i;
       state-same = rest .state-same ∙ sym (state-after s (framesOf table s bytes increment limit) _);
     }
+same (cleared {s} {u} {calls} {answers} {t} says run) =
+    let rest = subst (λ (v : State). Same v calls answers t) says (same run) in
+    record { answers-same = λ i. ofReset (says i) ∷ rest .answers-same i; state-same = rest .state-same }
 
 -- each list has a run
 pub run-of : (s : State) (calls : List Call) → Run s calls (toldFrom s calls) (stateFrom s (feedFrom s calls))
@@ -66,35 +72,46 @@ run-of s (settle table bytes increment limit ∷ calls) =
     let frames = framesOf table s bytes increment limit in
     subst (Run s (settle table bytes increment limit ∷ calls) _) (sym (state-after s frames _))
     (settled (sym (run-holds table s bytes increment limit .by-steps)) (run-of (stateFrom s frames) calls))
+run-of s (reset ∷ calls) = cleared refl (run-of (resetOf s) calls)
 
 -- ---- "the accepted frames alone reach the same state"
+untaken-keeps : (S : State) (fed : Fed) → isTaken S fed ≡ false → stateAfter S fed ≡ S
+untaken-keeps S (fedFrame table bytes) h = refusal-keeps table S bytes h
+untaken-keeps S fedReset h = absurd (true≢false h)
+
 alone : (S : State) (frames : List Fed) → stateFrom S (acceptedFrom S frames) ≡ stateFrom S frames
 alone S [] = refl
 alone S (fed ∷ rest) =
-    let after = stepFed S fed .state in
+    let after = stateAfter S fed in
     let others = acceptedFrom after rest in
-    chosen (λ (frames : List Fed). stateFrom S frames ≡ stateFrom after rest) (isAccepted (stepFed S fed)) (fed ∷ others) others
+    chosen (λ (frames : List Fed). stateFrom S frames ≡ stateFrom after rest) (isTaken S fed) (fed ∷ others) others
     (λ h. alone after rest)
-    (λ h. subst (λ (u : State). stateFrom u others ≡ stateFrom after rest) (refusal-keeps (fed .table) S (fed .bytes) h) (alone after rest))
+    (λ h. subst (λ (u : State). stateFrom u others ≡ stateFrom after rest) (untaken-keeps S fed h) (alone after rest))
 
 -- ---- "with rubber band off the stored offset lies in the range"
 range-along : (S : State) (frames : List Fed) → RangeAlong S frames
 range-along S [] = tt
-range-along S (fed ∷ rest) = (in-range (fed .table) S (fed .bytes), range-along (stepFed S fed .state) rest)
+range-along S (fedFrame table bytes ∷ rest) = (in-range table S bytes, range-along (stepAt table S bytes .state) rest)
+range-along S (fedReset ∷ rest) = range-along (resetOf S) rest
 
--- ---- "a sticking axis that nobody moves shows the list's end": from a stuck axis on, it stays stuck
+-- ---- "a sticking axis that nobody moves shows the list's end": from a stuck axis on, it stays stuck, over a reset too
+still-stuck : (S : State) (d : ℕ) → flag (resetOf S .«scroll_stuck_to_end») d ≡ flag (S .«scroll_stuck_to_end») d
+unfolding resetOf
+still-stuck S d = refl
+
 end-along : (moved : Table → State → List ℕ → ℕ → Bool) (d : ℕ) → StaysOnEnd moved d → (S : State) (frames : List Fed)
     → flag (S .«scroll_stuck_to_end») d ≡ true
     → EndAlong moved d S frames
 end-along moved d stays S [] stuck = tt
-end-along moved d stays S (fed ∷ rest) stuck = (
+end-along moved d stays S (fedFrame table bytes ∷ rest) stuck = (
   λ a sticks unmoved.
-      let on-end = stays (fed .table) S (fed .bytes) a sticks unmoved stuck in
-      (on-end .0, end-along moved d stays (stepFed S fed .state) rest (on-end .1)),
+      let on-end = stays table S bytes a sticks unmoved stuck in
+      (on-end .0, end-along moved d stays (stepAt table S bytes .state) rest (on-end .1)),
   λ a.
-      let kept = refusal-keeps (fed .table) S (fed .bytes) a in
-      end-along moved d stays (stepFed S fed .state) rest (ap (λ (s : State). flag (s .«scroll_stuck_to_end») d) kept ∙ stuck),
+      let kept = refusal-keeps table S bytes a in
+      end-along moved d stays (stepAt table S bytes .state) rest (ap (λ (s : State). flag (s .«scroll_stuck_to_end») d) kept ∙ stuck),
 )
+end-along moved d stays S (fedReset ∷ rest) stuck = end-along moved d stays (resetOf S) rest (still-stuck S d ∙ stuck)
 
 -- ---- the claim, of the fresh state
 fresh-stuck : (flag (default .«scroll_stuck_to_end») 0 ≡ true) × (flag (default .«scroll_stuck_to_end») 1 ≡ true)
@@ -121,6 +138,7 @@ whole-from-fresh calls answers t run =
       same-state = is .state-same;
       accepted-alone = alone default frames ∙ sym (is .state-same);
       distances = distances frames;
+      clock = clock-along frames;
     }
 
 pub all-lists : AllLists default

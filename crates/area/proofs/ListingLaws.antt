@@ -13,9 +13,10 @@ use Rattle.area.specs.State.{default, clampedTo, clampedOffset}
 use Rattle.area.specs.Layout.{layout, rows, rowAt, rowNo}
 use Rattle.area.specs.Frame.{wordNo, numberNo, flagNo, timeNo, pairNo, flagsNo, pos2No, rectNo, maybeNumberNo, givenOffsetNo}
 use Rattle.area.specs.Frame.{visibilityNo, dragNo, maybeScrollTargetNo, targetRequestNo, settingsOf, styleOf, hostOf, contentOf, frameOf}
+use Rattle.area.specs.Clock.{clockRefusal}
 use Rattle.area.specs.Checks.{isHeeded, shows2, shows3, shows4, shows5, isShown, showsNo, anyShows, frameRefusal}
 use Rattle.area.specs.Checks.{isPairFinite, isTargetFinite, areTargetsFinite, isPressFinite, arePressesFinite, isRectFinite, isStateFinite}
-use Rattle.area.specs.Checks.{stateRefusal, refusalOf}
+use Rattle.area.specs.Checks.{stateRefusal, refusalOf, refusalBefore7}
 use Rattle.area.specs.Geometry.{alongOf, pickOf, showsBar}
 use Rattle.area.specs.AxisPhysics.{physicsOf}
 use Rattle.area.specs.Space.{barUseOf, currentBarUseOf, sideOf, spaceBy, spaceOf, innerRect}
@@ -47,7 +48,7 @@ unfolding
     wordNo numberNo flagNo timeNo pairNo flagsNo pos2No rectNo maybeNumberNo givenOffsetNo
     visibilityNo dragNo maybeScrollTargetNo targetRequestNo settingsOf styleOf hostOf contentOf frameOf
     isHeeded shows2 shows3 shows4 shows5 isShown showsNo anyShows frameRefusal
-    isPairFinite isTargetFinite areTargetsFinite isPressFinite arePressesFinite isRectFinite isStateFinite stateRefusal refusalOf
+    isPairFinite isTargetFinite areTargetsFinite isPressFinite arePressesFinite isRectFinite isStateFinite stateRefusal refusalOf clockRefusal refusalBefore7
     alongOf pickOf showsBar physicsOf
     barUseOf currentBarUseOf sideOf Space.innerSizeOf spaceBy spaceOf innerRect
     givenOffsetOr openedOf beforeOf releasedOf steppedOf drivenOf followedOf

@@ -29,7 +29,7 @@ equals-itself (inf s) p = absurd (false≢true p)
 equals-itself (fin true m e) p = itself (m * up e * down e)
 equals-itself (fin false m e) p = itself (m * up e * down e)
 
-at-most-itself : (x : Float) → isFinite x ≡ true → le x x ≡ true
+pub at-most-itself : (x : Float) → isFinite x ≡ true → le x x ≡ true
 unfolding le
 at-most-itself x p = or-right (lt x x) (eq x x) (equals-itself x p)
 

@@ -35,7 +35,7 @@ none-shows k s (suc n) m h l =
       | inr b ↦ none-shows k s n m (not-left (anyShows k s n) (showsNo k s (suc n)) h) b
     ]
 
-abbrev firstOf : Bool → Bool → Bool → Bool → Bool → ℕ
+abbrev pub firstOf : Bool → Bool → Bool → Bool → Bool → ℕ
 firstOf long two three four five = cond (not long) 1 (cond two 2 (cond three 3 (cond four 4 (cond five 5 0))))
 
 none-first : (long two three four five : Bool) → firstOf long two three four five ≡ 0

@@ -10,36 +10,40 @@ use lib.Dec.{eqb}
 use lib.Ieee.{Float}
 use lib.ListN.{length}
 use Rattle.numbers.specs.Table.{Table}
-use Rattle.area.specs.Steps.{Fed, stepAt, stepFed, answersFrom, stateFrom, isAccepted, acceptedFrom}
-use Rattle.area.specs.SettlingRun.{runRefusal, settleRefusal, advanced, endedWith, counted, settleFrom, settleUnder}
+use Rattle.area.specs.Clock.{isBack}
+use Rattle.area.specs.Steps.{Fed, fedFrame, stepAt, answersFrom, stateFrom, isAccepted, acceptedFrom}
+use Rattle.area.specs.SettlingRun.{isNoIncrement, runRefusal, settleRefusal, advanced, endedWith, counted, settleFrom, settleUnder}
 use Rattle.area.specs.SettlingRun.{framesFrom, framesOf, lastRefusal, settledBy, isInside, FramesInside, RunHolds}
 use Rattle.area.specs.declared.state.State.{State}
 use Rattle.area.specs.declared.outcome.Answer.{Answer}
 use Rattle.area.specs.declared.«settling_run».Settled.{Settled}
-use Rattle.area.proofs.CallLaws.{step-is-call, refusal-keeps}
+use Rattle.area.proofs.CallLaws.{step-is-call, refusal-keeps, accepted}
 use Rattle.area.proofs.SettlingRunLaws.{passes-first}
-use Rattle.area.proofs.InsideLaws.{Inner, isLate, inner-next, inner-first, early-first, frame-inside}
+use Rattle.area.proofs.InsideLaws.{Inner, isLate, inner-next, inner-first, early-first, some-increment, next-in-time, back-inside, no-12, frame-inside}
 
 -- ---- what the steps on a list of frames come to
 abbrev come : State → List Fed → Settled
 come S frames = record { refusal = lastRefusal (answersFrom S frames); used = length (acceptedFrom S frames); state = stateFrom S frames }
 
 -- a refused frame
-come-refused : (S : State) (fed : Fed) → isAccepted (stepFed S fed) ≡ false → come S (fed ∷ []) ≡ endedWith (stepFed S fed .outcome .refusal) S
-come-refused S fed a =
+come-refused : (table : Table) (S : State) (bytes : List ℕ) → isAccepted (stepAt table S bytes) ≡ false
+    → come S (fedFrame table bytes ∷ []) ≡ endedWith (stepAt table S bytes .outcome .refusal) S
+come-refused table S bytes a =
+    let fed = fedFrame table bytes in
     let none : length (acceptedFrom S (fed ∷ [])) ≡ 0 = ap (λ (t : Bool). length (cond t (fed ∷ []) [])) a in
-    let kept = refusal-keeps (fed .table) S (fed .bytes) a in
-    λ i. record { refusal = stepFed S fed .outcome .refusal; used = none i; state = kept i }
+    let kept = refusal-keeps table S bytes a in
+    λ i. record { refusal = stepAt table S bytes .outcome .refusal; used = none i; state = kept i }
 
 -- an accepted one, ahead of others
 last-of : (r : Answer) (answers : List Answer) → r .outcome .refusal ≡ 0 → lastRefusal (r ∷ answers) ≡ lastRefusal answers
 last-of r [] h = h
 last-of r (q ∷ answers) h = refl
 
-come-accepted : (S : State) (fed : Fed) (rest : List Fed) → isAccepted (stepFed S fed) ≡ true
-    → come S (fed ∷ rest) ≡ counted (come (stepFed S fed .state) rest)
-come-accepted S fed rest a =
-    let r = stepFed S fed in
+come-accepted : (table : Table) (S : State) (bytes : List ℕ) (rest : List Fed) → isAccepted (stepAt table S bytes) ≡ true
+    → come S (fedFrame table bytes ∷ rest) ≡ counted (come (stepAt table S bytes .state) rest)
+come-accepted table S bytes rest a =
+    let fed = fedFrame table bytes in
+    let r = stepAt table S bytes in
     let others = acceptedFrom (r .state) rest in
     let last = last-of r (answersFrom (r .state) rest) (eqb-true (r .outcome .refusal) 0 a) in
     let one-more : length (acceptedFrom S (fed ∷ rest)) ≡ length others + 1 =
@@ -51,12 +55,12 @@ module _ (table : Table) (increment : Float) where
   pub data Goes : ℕ → State → List ℕ → Settled → List Fed → Type 0 where
     ends : {S : State} {bytes : List ℕ} → Goes zero S bytes (endedWith 0 S) []
     refused : {n : ℕ} {S : State} {bytes : List ℕ} → isAccepted (stepAt table S bytes) ≡ false
-        → Goes (suc n) S bytes (endedWith (stepAt table S bytes .outcome .refusal) S) (record { table = table; bytes = bytes } ∷ [])
+        → Goes (suc n) S bytes (endedWith (stepAt table S bytes .outcome .refusal) S) (fedFrame table bytes ∷ [])
     rests : {n : ℕ} {S : State} {bytes : List ℕ} → isAccepted (stepAt table S bytes) ≡ true
-        → Goes (suc n) S bytes (counted (endedWith 0 (stepAt table S bytes .state))) (record { table = table; bytes = bytes } ∷ [])
+        → Goes (suc n) S bytes (counted (endedWith 0 (stepAt table S bytes .state))) (fedFrame table bytes ∷ [])
     on : {n : ℕ} {S : State} {bytes : List ℕ} {r : Settled} {frames : List Fed} → isAccepted (stepAt table S bytes) ≡ true
         → Goes n (stepAt table S bytes .state) (advanced increment bytes) r frames
-        → Goes (suc n) S bytes (counted r) (record { table = table; bytes = bytes } ∷ frames)
+        → Goes (suc n) S bytes (counted r) (fedFrame table bytes ∷ frames)
 
   goes-by : (n : ℕ) (S : State) (bytes : List ℕ) (t p : Bool)
       → let r = stepAt table S bytes in
@@ -78,9 +82,9 @@ module _ (table : Table) (increment : Float) where
   -- it is its frames' steps
   by-steps : {n : ℕ} {S : State} {bytes : List ℕ} {r : Settled} {frames : List Fed} → Goes n S bytes r frames → r ≡ come S frames
   by-steps ends = refl
-  by-steps (refused a) = sym (come-refused _ _ a)
-  by-steps (rests a) = sym (come-accepted _ _ [] a)
-  by-steps (on {n} {S} {bytes} {r} {frames} a run) = ap counted (by-steps run) ∙ sym (come-accepted S _ frames a)
+  by-steps (refused a) = sym (come-refused table _ _ a)
+  by-steps (rests a) = sym (come-accepted table _ _ [] a)
+  by-steps (on {n} {S} {bytes} {r} {frames} a run) = ap counted (by-steps run) ∙ sym (come-accepted table S bytes frames a)
 
   at-most : {n : ℕ} {S : State} {bytes : List ℕ} {r : Settled} {frames : List Fed} → Goes n S bytes r frames → r .used ≤ n
   at-most ends = omega arith
@@ -120,6 +124,31 @@ module _ (table : Table) (increment : Float) where
   not-first (rests a) i early h = omega arith
   not-first (on a run) i early h = omega arith
 
+  -- 12: not after the first frame, and at it where the clock has run back
+  forward : {n : ℕ} {S : State} {bytes : List ℕ} {r : Settled} {frames : List Fed} → Goes n S bytes r frames → isNoIncrement increment ≡ false
+      → Inner S bytes → isBack bytes S ≡ false → eqb (r .refusal) 12 ≡ false
+  forward ends some i h = refl
+  forward (refused a) some i h = no-12 table _ _ i h
+  forward (rests a) some i h = refl
+  forward (on a run) some i h = forward run some (inner-next table increment _ _ i a) (next-in-time table increment _ _ some i a)
+
+  back : {n : ℕ} {S : State} {bytes : List ℕ} {r : Settled} {frames : List Fed} → Goes n S bytes r frames → 1 ≤ n → isNoIncrement increment ≡ false
+      → Inner S bytes → isLate bytes ≡ false → eqb (r .refusal) 12 ≡ isBack bytes S
+  back ends one some i early = absurd (omega (arith, one))
+  back (refused a) one some i early = back-inside table _ _ i early
+  back (rests a) one some i early = sym (accepted table _ _ a .in-time)
+  back (on a run) one some i early =
+      forward run some (inner-next table increment _ _ i a) (next-in-time table increment _ _ some i a) ∙ sym (accepted table _ _ a .in-time)
+
+  only-first : {n : ℕ} {S : State} {bytes : List ℕ} {r : Settled} {frames : List Fed} → Goes n S bytes r frames → isNoIncrement increment ≡ false
+      → Inner S bytes → r .refusal ≡ 12 → r .used ≡ 0
+  only-first ends some i h = refl
+  only-first (refused a) some i h = refl
+  only-first (rests a) some i h = absurd (omega (arith, h))
+  only-first (on a run) some i h =
+      let none = forward run some (inner-next table increment _ _ i a) (next-in-time table increment _ _ some i a) in
+      absurd (true≢false (sym (eq-eqb _ 12 h) ∙ none))
+
 -- ---- the whole run
 
 -- a limit of 0 is turned back
@@ -140,6 +169,7 @@ module _ (table : Table) (S : State) (bytes : List ℕ) (increment : Float) (lim
       let none = eqb-true refusal 0 h in
       let run = goes table increment limit S bytes in
       let first = inner-first S bytes increment limit none in
+      let some = some-increment S bytes increment limit none in
       rw h
       (record {
         at-most = at-most table increment run;
@@ -147,6 +177,8 @@ module _ (table : Table) (S : State) (bytes : List ℕ) (increment : Float) (lim
         up-front = λ no. absurd (no none);
         inside = λ _. inside table increment run first;
         not-first = λ _. not-first table increment run first (early-first S bytes increment limit none);
+        back = λ _. back table increment run (some-frames S bytes increment limit none) some first (early-first S bytes increment limit none);
+        only-first = λ _. only-first table increment run some first;
         frames-inside = rw h (frames-inside table increment run first);
         by-steps = rw h (by-steps table increment run);
       })
@@ -159,6 +191,8 @@ module _ (table : Table) (S : State) (bytes : List ℕ) (increment : Float) (lim
         up-front = λ no. refl;
         inside = λ none. absurd (some none);
         not-first = λ none. absurd (some none);
+        back = λ none. absurd (some none);
+        only-first = λ none. absurd (some none);
         frames-inside = rw h tt;
         by-steps = rw h;
       })

@@ -62,7 +62,7 @@ module _ {M : Type 1} (𝓤 : URA M) (H : Heap 𝓤) (A : Atoms 𝓤) (W : Given
 
 -- where an answer's outcome stands: after the state's bytes
 abbrev pub outcomeAt : ℕ
-outcomeAt = 144
+outcomeAt = 152
 
 -- the types and the values of an answer's fields
 abbrev answerTys : Tys
@@ -94,7 +94,10 @@ pub outcome-of : (r : Answer) (vs : List Val) → Is B.the-row r vs → Is O.the
 unfolding outcomeVal
 outcome-of r vs is = LL.owed B.the-type B′.the-laws r vs is .1 .0
 
--- an outcome's relation, at its machine value written out
+-- a state's relation and an outcome's, at their machine values written out
+pub state-is : (u : State) (vs : List Val) → Is S.the-row u vs → Is S.the-row u (stateVal u ∷ [])
+state-is u vs is = subst (λ (us : List Val). Is S.the-row u us) (state-tells u vs is) is
+
 pub outcome-is : (r : Outcome) (vs : List Val) → Is O.the-row r vs → Is O.the-row r (outcomeVal r ∷ [])
 outcome-is r vs is = subst (λ (us : List Val). Is O.the-row r us) (outcome-tells r vs is) is
 

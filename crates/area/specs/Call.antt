@@ -1,11 +1,11 @@
--- "The frame call": the checks but 8 in order, 7 on the bar and handle that `begin` and `end` reach; then 8 on what they put out.
+-- "The frame call": the checks but 8 in order, 12 among them, 7 on the bar and handle that `begin` and `end` reach; then 8 on what they put out.
 use Prim.Native.Nat.{ℕ}
 use mathlib.Core.Bool.{cond}
 use mathlib.Core.List.{List}
 use lib.Dec.{eqb}
 use Rattle.numbers.specs.Table.{Table}
 use Rattle.area.specs.Frame.{frameOf}
-use Rattle.area.specs.Checks.{refusalOf}
+use Rattle.area.specs.Checks.{refusalBefore7}
 use Rattle.area.specs.Begin.{beginOf}
 use Rattle.area.specs.End.{endOf, isPressBlocked}
 use Rattle.area.specs.PutOut.{answerOf}
@@ -24,5 +24,5 @@ runOf table state frame =
 -- under the table that the call uses; T serves where it uses none
 unfoldable pub callUnder : Table → State → List ℕ → Answer
 callUnder table state bytes =
-    let refusal = refusalOf bytes state in
+    let refusal = refusalBefore7 bytes state in
     cond (eqb refusal 0) (runOf table state (frameOf bytes)) (refusedOf state refusal)

@@ -1,4 +1,4 @@
--- "Turned back, in checking order", 1 to 6. "For a frame, checks 1 to 5 read the frame alone, never the state."
+-- "Turned back, in checking order", 1 to 6, and document 02's 12. "For a frame, checks 1 to 5 read the frame alone, never the state."
 use mathlib.Core.Bool.{Bool, true, false, cond, not, _&&_, _||_}
 use mathlib.Core.List.{List}
 use Prim.Native.Nat.{ℕ, zero, suc, _-_}
@@ -20,6 +20,7 @@ use Rattle.area.specs.State.{noTarget, noPress}
 use Rattle.area.specs.Layout as At
 use Rattle.area.specs.Layout.{Row, rowNo}
 use Rattle.area.specs.Frame.{wordNo, numberNo, timeNo}
+use Rattle.area.specs.Clock.{clockRefusal}
 
 -- "A word inside an option whose flag is 0" is not heeded
 unfoldable pub isHeeded : List ℕ → Row → Bool
@@ -124,6 +125,7 @@ isStateFinite s =
     && isPairFinite (s .vel)
     && arePressesFinite (s .«scroll_start_offset_from_top_left»)
     && isRectFinite (s .«interact_rect»)
+    && isFinite (s .«remembered_time»)
 
 unfoldable pub stateRefusal : State → ℕ
 stateRefusal s = cond (isStateFinite s) 0 6
@@ -131,3 +133,7 @@ stateRefusal s = cond (isStateFinite s) 0 6
 -- the lowest of 1 to 6 that applies, or 0
 unfoldable pub refusalOf : List ℕ → State → ℕ
 refusalOf s state = cond (eqb (frameRefusal s) 0) (stateRefusal state) (frameRefusal s)
+
+-- document 02's 12, "after 6 .. and before 7": the first that applies of 1 to 6 and 12, or 0
+unfoldable pub refusalBefore7 : List ℕ → State → ℕ
+refusalBefore7 s state = cond (eqb (refusalOf s state) 0) (clockRefusal s state) (refusalOf s state)

@@ -1,10 +1,11 @@
--- The state and its readers; the frame's words and what they stand for; the checks; then `begin` and `end`, stage by stage in the
+-- The state and its readers; the frame's words and what they stand for; the clock; the checks; then `begin` and `end`, stage by stage in the
 -- order of the Rust; the frame call; lists of calls, and a refused frame without its input. Corners is what document 01 says of a target
 -- under way, and Listing what it prints of its own frame, proved.
 pub mod Pair
 pub mod State
 pub mod Layout
 pub mod Frame
+pub mod Clock
 pub mod Checks
 pub mod Marks
 pub mod Sweep

@@ -15,9 +15,9 @@ use Rattle.area.specs.declared.end.Ended.{Ended}
 use Rattle.area.specs.declared.outcome.Outcome.{Outcome}
 use Rattle.area.specs.declared.outcome.Answer.{Answer}
 
--- state, as `end` stores it
-unfoldable pub nextState : Ended → State
-nextState e = record {
+-- state, as `end` stores it; "The state shall remember the time of its last accepted frame"
+unfoldable pub nextState : Frame → Ended → State
+nextState f e = record {
   offset = e .x .offset ∷ e .y .offset ∷ [];
   «max_offset» = e .«x_extent» .«max_offset» ∷ e .«y_extent» .«max_offset» ∷ [];
   «offset_target» = e .x .«offset_target» ∷ e .y .«offset_target» ∷ [];
@@ -29,6 +29,7 @@ nextState e = record {
   «scroll_stuck_to_end» = e .x .«scroll_stuck_to_end» ∷ e .y .«scroll_stuck_to_end» ∷ [];
   «interact_rect» = MaybeRect.Some (shrunkRectOf (e .«x_extent») (e .«y_extent»));
   «bounced_this_momentum» = e .x .«bounced_this_momentum» ∷ e .y .«bounced_this_momentum» ∷ [];
+  «remembered_time» = f .host .time;
 }
 
 -- end, "Clear scroll delta so no parent scroll will use it"
@@ -68,4 +69,4 @@ outcomeOf f s p e = record {
 }
 
 unfoldable pub answerOf : Frame → State → Prepared → Ended → Answer
-answerOf f s p e = record { state = nextState e; outcome = outcomeOf f s p e }
+answerOf f s p e = record { state = nextState f e; outcome = outcomeOf f s p e }

@@ -8,7 +8,7 @@ use lib.Dec.{eqb}
 use lib.ListN.{length, take, drop}
 use Rattle.numbers.specs.Table.{tableAt}
 use Rattle.area.specs.State.{default}
-use Rattle.area.specs.Lists.{Call, byValue, lent, Told, ofFrame, ofRun, toldFrom, Run, Whole}
+use Rattle.area.specs.Lists.{Call, byValue, lent, Told, ofFrame, ofRun, ofReset, toldFrom, Run, Whole}
 use Rattle.area.specs.declared.state.State.{State}
 
 abbrev pub frameLength : ℕ
@@ -34,10 +34,11 @@ pub record Part (bytes : List ℕ) (start end : ℕ) : Type 0 where
   pub frame : take (end - start) (drop start bytes) ≡ take frameLength (drop start bytes)
   pub rest : drop end bytes ≡ drop frameLength (drop start bytes)
 
--- what the steps refuse, call by call
+-- what the steps refuse, call by call; a reset never is
 abbrev pub refusalIn : Told → ℕ
 refusalIn (ofFrame r) = r .outcome .refusal
 refusalIn (ofRun r) = r .refusal
+refusalIn (ofReset s) = 0
 
 abbrev pub refusalsFrom : State → List Call → List ℕ
 refusalsFrom S calls = map refusalIn (toldFrom S calls)

@@ -11,9 +11,10 @@ use Rattle.words.specs.Words.{putAt}
 use Rattle.numbers.specs.Table.{Table}
 use Rattle.area.specs.Layout as At
 use Rattle.area.specs.Frame.{timeNo, timeWords}
+use Rattle.area.specs.Clock.{isBack}
 use Rattle.area.specs.Checks.{isTimeOutside, refusalOf}
 use Rattle.area.specs.Call.{callUnder}
-use Rattle.area.specs.Steps.{Fed, stepAt, stepFed, answersFrom, stateFrom, isAccepted, acceptedFrom}
+use Rattle.area.specs.Steps.{Fed, fedFrame, fedReset, stepAt, answersFrom, stateFrom, isAccepted, acceptedFrom}
 use Rattle.area.specs.Moved.{isMovedByWords}
 use Rattle.area.specs.declared.state.State.{State}
 use Rattle.area.specs.declared.outcome.Answer.{Answer}
@@ -89,7 +90,7 @@ abbrev pub framesFrom : Table → Float → ℕ → State → List ℕ → List 
 framesFrom table increment zero S bytes = []
 framesFrom table increment (suc n) S bytes =
     let r = stepAt table S bytes in
-    record { table = table; bytes = bytes }
+    fedFrame table bytes
     ∷ cond (isAccepted r && r .outcome .repaint) (framesFrom table increment n (r .state) (advanced increment bytes)) []
 
 -- none where it is turned back up front
@@ -117,19 +118,21 @@ settledBy table S bytes increment limit =
 
 -- the number that a frame inside can be refused with, or 0
 abbrev pub isInside : ℕ → Bool
-isInside refusal = eqb refusal 0 || eqb refusal 3 || eqb refusal 8
+isInside refusal = eqb refusal 0 || eqb refusal 3 || eqb refusal 8 || eqb refusal 12
 
 -- of a frame inside, on the state S that those before it reached
-pub record FrameInside (S : State) (fed : Fed) : Type 0 where
+pub record FrameInside (table : Table) (S : State) (bytes : List ℕ) : Type 0 where
   -- no word of it names a move, as in the frame given
-  pub unmoved : (isMovedByWords (fed .bytes) 0 ≡ false) × (isMovedByWords (fed .bytes) 1 ≡ false)
-  pub refused : isInside (stepFed S fed .outcome .refusal) ≡ true
+  pub unmoved : (isMovedByWords bytes 0 ≡ false) × (isMovedByWords bytes 1 ≡ false)
+  pub refused : isInside (stepAt table S bytes .outcome .refusal) ≡ true
   -- with 3 exactly where its time is not from 0 to 2^32
-  pub late : eqb (stepFed S fed .outcome .refusal) 3 ≡ isTimeOutside (timeNo (fed .bytes) At.time)
+  pub late : eqb (stepAt table S bytes .outcome .refusal) 3 ≡ isTimeOutside (timeNo bytes At.time)
 
+-- it has frames alone
 abbrev pub FramesInside : State → List Fed → Type 0
 FramesInside S [] = Unit {0}
-FramesInside S (fed ∷ frames) = FrameInside S fed × FramesInside (stepFed S fed .state) frames
+FramesInside S (fedFrame table bytes ∷ frames) = FrameInside table S bytes × FramesInside (stepAt table S bytes .state) frames
+FramesInside S (fedReset ∷ frames) = ⊥
 
 pub record RunHolds (table : Table) (S : State) (bytes : List ℕ) (increment : Float) (limit : ℕ) (r : Settled) : Type 0 where
   -- "counted frames in the settling run's result, bounded by the given limit"; and one at least where none is refused
@@ -137,9 +140,12 @@ pub record RunHolds (table : Table) (S : State) (bytes : List ℕ) (increment : 
   pub at-least : r .refusal ≡ 0 → 1 ≤ r .used
   -- a refusal up front leaves everything as given
   pub up-front : (settleRefusal S bytes increment limit ≡ 0 → ⊥) → r ≡ endedWith (settleRefusal S bytes increment limit) S
-  -- inside, 3 and 8 alone can end it by a refusal, and 3 not at its first frame
+  -- inside, 3, 8 and 12 alone can end it by a refusal, 3 not at its first frame
   pub inside : settleRefusal S bytes increment limit ≡ 0 → isInside (r .refusal) ≡ true
   pub not-first : settleRefusal S bytes increment limit ≡ 0 → r .refusal ≡ 3 → 1 ≤ r .used
+  -- and 12 at its first frame alone, exactly where that frame's time is less than the remembered one: after it the times do not fall
+  pub back : settleRefusal S bytes increment limit ≡ 0 → eqb (r .refusal) 12 ≡ isBack bytes S
+  pub only-first : settleRefusal S bytes increment limit ≡ 0 → r .refusal ≡ 12 → r .used ≡ 0
   pub frames-inside : FramesInside S (framesOf table S bytes increment limit)
   -- it is its frames' steps; so a refusal inside hands back its number with the frames and the state before it
   pub by-steps : r ≡ settledBy table S bytes increment limit

@@ -1,8 +1,8 @@
--- `State::default`, and the offset readers.
+-- `State::default`, document 02's remembered time, and the offset readers.
 use Prim.Native.Nat.{ℕ}
 use mathlib.Core.Bool.{true, false}
 use mathlib.Core.List.{List, [], _∷_}
-use lib.Ieee.{Float}
+use lib.Ieee.{Float, binary64, ofBits}
 use Rattle.numbers.specs.F32.{minus, zero}
 use Rattle.numbers.specs.Range.{clampOf}
 use Rattle.axis.specs.Physics.{scrollBoundsOf}
@@ -20,7 +20,11 @@ noTarget = record { target = MaybeTarget.Nothing }
 abbrev pub noPress : StartOffset
 noPress = record { press = MaybePress.Nothing }
 
--- State::default
+-- "0 in a fresh one"
+abbrev pub noTime : Float
+noTime = ofBits binary64 0
+
+-- State::default, and the remembered time
 unfoldable pub default : State
 default = record {
   offset = zero ∷ zero ∷ [];
@@ -34,6 +38,7 @@ default = record {
   «scroll_stuck_to_end» = true ∷ true ∷ [];
   «interact_rect» = MaybeRect.Nothing;
   «bounced_this_momentum» = false ∷ false ∷ [];
+  «remembered_time» = noTime;
 }
 
 -- scroll_bounds(max_offset).clamp(offset)

@@ -1,12 +1,14 @@
 -- "The steps of demand 3 are fed each call's frame bytes and nothing else, alike for both forms (a state left counts as returned)."
--- Document 02: "The steps of demand 3 take for each call the loaded table that it uses". T serves where a call uses none.
+-- Document 02: "The steps of demand 3 take for each call the loaded table that it uses", T where it uses none; "Lists may then hold resets,
+-- which the steps of demand 3 take in their places among the accepted frames".
 use Prim.Native.Nat.{ℕ}
-use mathlib.Core.Bool.{Bool, cond}
+use mathlib.Core.Bool.{Bool, true, cond}
 use mathlib.Core.List.{List, [], _∷_}
 use lib.Dec.{eqb}
 use Rattle.numbers.specs.Table.{Table}
 use Rattle.area.specs.Frame.{frameOf}
-use Rattle.area.specs.Checks.{refusalOf}
+use Rattle.area.specs.Clock.{resetOf}
+use Rattle.area.specs.Checks.{refusalBefore7}
 use Rattle.area.specs.Begin.{beginOf}
 use Rattle.area.specs.End.{endOf, isPressBlocked}
 use Rattle.area.specs.PutOut.{answerOf}
@@ -32,7 +34,7 @@ outputsAt table S bytes = answerOf (frameOf bytes) S (begunAt table S bytes) (en
 -- "The checks but 8 are tried in order on the bytes and S, 7 on the bar and handle that `begin` and `end` reach from them": the
 -- first that applies, or 0
 unfoldable pub checkAt : Table → State → List ℕ → ℕ
-checkAt table S bytes = cond (eqb (refusalOf bytes S) 0) (cond (isPressBlocked (endedAt table S bytes)) 7 0) (refusalOf bytes S)
+checkAt table S bytes = cond (eqb (refusalBefore7 bytes S) 0) (cond (isPressBlocked (endedAt table S bytes)) 7 0) (refusalBefore7 bytes S)
 
 -- "At the first that applies, the answer is its number and S; S stays. Else `begin`, then `end`, run on S and the frame under the
 -- meanings above. If a number they put out is not finite, the answer is 8 and S; S stays. Otherwise the answer is all their outputs, and S
@@ -45,27 +47,35 @@ stepAt table S bytes =
 
 -- ---- a whole list
 
--- what the steps are fed of a call: the table that it uses, and its frame's bytes
-pub record Fed : Type 0 where
-  pub table : Table
-  pub bytes : List ℕ
+-- what the steps are fed of a call: the table that it uses with its frame's bytes, or a reset
+pub data Fed : Type 0 where
+  fedFrame : Table → List ℕ → Fed
+  fedReset : Fed
 
-abbrev pub stepFed : State → Fed → Answer
-stepFed S fed = stepAt (fed .table) S (fed .bytes)
-
-abbrev pub answersFrom : State → List Fed → List Answer
-answersFrom S [] = []
-answersFrom S (fed ∷ rest) = stepFed S fed ∷ answersFrom (stepFed S fed .state) rest
+abbrev pub stateAfter : State → Fed → State
+stateAfter S (fedFrame table bytes) = stepAt table S bytes .state
+stateAfter S fedReset = resetOf S
 
 abbrev pub stateFrom : State → List Fed → State
 stateFrom S [] = S
-stateFrom S (fed ∷ rest) = stateFrom (stepFed S fed .state) rest
+stateFrom S (fed ∷ rest) = stateFrom (stateAfter S fed) rest
+
+-- the frames' answers
+abbrev pub answersFrom : State → List Fed → List Answer
+answersFrom S [] = []
+answersFrom S (fedFrame table bytes ∷ rest) = stepAt table S bytes ∷ answersFrom (stepAt table S bytes .state) rest
+answersFrom S (fedReset ∷ rest) = answersFrom (resetOf S) rest
 
 abbrev pub isAccepted : Answer → Bool
 isAccepted r = eqb (r .outcome .refusal) 0
 
--- the frames that are accepted where they stand: each tried on the state that the frames before it, refused ones too, reached
+-- an accepted frame, or a reset
+abbrev pub isTaken : State → Fed → Bool
+isTaken S (fedFrame table bytes) = isAccepted (stepAt table S bytes)
+isTaken S fedReset = true
+
+-- the frames that are accepted where they stand, each tried on the state that all before it, refused ones too, reached; with the resets in
+-- their places among them
 abbrev pub acceptedFrom : State → List Fed → List Fed
 acceptedFrom S [] = []
-acceptedFrom S (fed ∷ rest) =
-    cond (isAccepted (stepFed S fed)) (fed ∷ acceptedFrom (stepFed S fed .state) rest) (acceptedFrom (stepFed S fed .state) rest)
+acceptedFrom S (fed ∷ rest) = cond (isTaken S fed) (fed ∷ acceptedFrom (stateAfter S fed) rest) (acceptedFrom (stateAfter S fed) rest)

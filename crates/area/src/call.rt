@@ -5,7 +5,7 @@ ghost use Rattle.area.specs.Frame.{Whole, frameOf};
 ghost use Rattle.area.specs.Call as Spec;
 ghost use Rattle.area.specs.Lists.{FrameSays};
 use crate::begin::begin;
-use crate::checks::refusal_of;
+use crate::checks::refusal_before_7;
 use crate::end::end;
 use crate::end::is_press_blocked;
 use crate::outcome::Answer;
@@ -27,7 +27,7 @@ pub fn frame_call(state: State, bytes: &[u8]) -> Answer
 pub fn frame_by(state: State, bytes: &[u8], table: &[u8]) -> Answer
     ensures { λ r. ⌜ FrameSays (tableOf (now (table .entry))) state (now (bytes .entry)) r ⌝ }
 {
-    let refusal = refusal_of(bytes, state);
+    let refusal = refusal_before_7(bytes, state);
     let accepted = refusal == 0;
     if accepted {
         return run(state, bytes, table);

@@ -1,6 +1,7 @@
-// Checks 1 to 5 on a frame's bytes, whether or not the steps read them, and check 6 on a state.
+// Checks 1 to 5 on a frame's bytes, whether or not the steps read them, check 6 on a state, and all that goes before 7.
 ghost use mathlib.Core.Path.{_≡_};
 ghost use Rattle.area.specs.Checks as Spec;
+use crate::clock::clock_refusal;
 use crate::state::MaybePress;
 use crate::state::MaybeRect;
 use crate::state::MaybeTarget;
@@ -10,6 +11,18 @@ use crate::state::State;
 use crate::sweep::sweep_words;
 use numbers::is_finite;
 use numbers::is_finite_f64;
+
+// The first that applies of 1 to 6 and 12, or 0.
+pub fn refusal_before_7(frame: &[u8], state: State) -> u32
+    ensures { λ r. ⌜ r ≡ Spec.refusalBefore7 (now (frame .entry)) state ⌝ }
+{
+    let number = refusal_of(frame, state);
+    let passed = number == 0;
+    if passed {
+        return clock_refusal(frame, state);
+    }
+    number
+}
 
 // The lowest of 1 to 6 that applies, or 0.
 pub fn refusal_of(frame: &[u8], state: State) -> u32
@@ -51,12 +64,14 @@ pub fn is_state_finite(state: State) -> bool
     let vel = state.vel;
     let presses = state.scroll_start_offset_from_top_left;
     let rect = state.interact_rect;
+    let remembered_time = state.remembered_time;
     is_pair_finite(offset)
         & is_pair_finite(max_offset)
         & are_targets_finite(targets)
         & is_pair_finite(vel)
         & are_presses_finite(presses)
         & is_rect_finite(rect)
+        & is_finite_f64(remembered_time)
 }
 
 pub fn is_pair_finite(v: [f32; 2]) -> bool

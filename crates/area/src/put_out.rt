@@ -24,7 +24,7 @@ pub fn answer_of(frame: &[u8], state: State, prepared: Prepared, ended: Ended) -
     let x_handle = ended.x.handle;
     let y_handle = ended.y.handle;
     Answer {
-        state: next_state(ended),
+        state: next_state(frame, ended),
         outcome: Outcome {
             refusal: 0,
             content_size: content_words::size(frame),
@@ -39,8 +39,9 @@ pub fn answer_of(frame: &[u8], state: State, prepared: Prepared, ended: Ended) -
 }
 
 // What the next frame begins from.
-fn next_state(ended: Ended) -> State
-    ensures { λ r. ⌜ r ≡ Spec.nextState ended ⌝ }
+fn next_state(frame: &[u8], ended: Ended) -> State
+    requires { ⌜ Whole (now frame) ⌝ }
+    ensures { λ r. ⌜ r ≡ Spec.nextState (frameOf (now (frame .entry))) ended ⌝ }
 {
     let x_target = ended.x.offset_target;
     let y_target = ended.y.offset_target;
@@ -64,6 +65,7 @@ fn next_state(ended: Ended) -> State
         scroll_stuck_to_end: [ended.x.scroll_stuck_to_end, ended.y.scroll_stuck_to_end],
         interact_rect: MaybeRect::Some(shrunk_rect_of(ended.x_extent, ended.y_extent)),
         bounced_this_momentum: [ended.x.bounced_this_momentum, ended.y.bounced_this_momentum],
+        remembered_time: host_words::time(frame),
     }
 }
 

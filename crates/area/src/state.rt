@@ -54,6 +54,8 @@ pub struct State {
     pub scroll_stuck_to_end: [bool; 2],
     pub interact_rect: MaybeRect,
     pub bounced_this_momentum: [bool; 2],
+    // Of the last accepted frame; an earlier one is refused.
+    pub remembered_time: f64,
 }
 
 impl State {
@@ -88,6 +90,7 @@ impl State {
             scroll_stuck_to_end: [true, true],
             interact_rect: MaybeRect::Nothing,
             bounced_this_momentum: [false, false],
+            remembered_time: 0.0,
         }
     }
 

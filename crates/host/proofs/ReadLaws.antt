@@ -1,4 +1,4 @@
--- A word that was written is read back; and so is each part that words were put in.
+-- Each part that words were put in is read back.
 use mathlib.Core.Path.{_≡_, refl, sym, ap, _∙_, subst}
 use mathlib.Core.List.{List, [], _∷_, _++_}
 use Prim.Native.Nat.{ℕ, zero, suc, _+_, _-_, _*_, _/_, _%_, _<_}
@@ -9,61 +9,6 @@ use lib.Seq.{getD-append-add}
 use Rattle.words.specs.Words.{wordAt, bytesOfWord, bytesOf}
 use Rattle.area.specs.Frame.{wordNo}
 use Rattle.host.proofs.PartLaws.{Part, Right, wordsOf}
-
--- ---- words
--- the digits of a, b = a / 256 and c = b / 256 to the base 256
-digits : (w a b c p q r d : ℕ) → 256 * a + p ≡ w → 256 * b + q ≡ a → 256 * c + r ≡ b → d ≡ c → p + 256 * q + 65536 * r + 16777216 * d ≡ w
-digits w a b c p q r d first second third fourth = omega (arith, first, second, third, fourth)
-
-two : (w : ℕ) → w / 65536 ≡ w / 256 / 256
-two w = sym (div-div-eq-div-mul w 256 256)
-
-three : (w : ℕ) → w / 16777216 ≡ w / 256 / 256 / 256
-three w = sym (div-div-eq-div-mul w 65536 256) ∙ ap (λ (n : ℕ). n / 256) (two w)
-
-top : (w : ℕ) → w < 4294967296 → w / 16777216 % 256 ≡ w / 256 / 256 / 256
-top w fits = mod-eq-of-lt (omega (arith, fits)) ∙ three w
-
-joined : (w : ℕ) → w < 4294967296
-    → w % 256 + 256 * (w / 256 % 256) + 65536 * (w / 65536 % 256) + 16777216 * (w / 16777216 % 256) ≡ w
-joined w fits =
-    digits w (w / 256) (w / 256 / 256) (w / 256 / 256 / 256) (w % 256) (w / 256 % 256) (w / 65536 % 256) (w / 16777216 % 256)
-    (div-add-mod w 256)
-    (div-add-mod (w / 256) 256)
-    (ap (λ (n : ℕ). 256 * (w / 256 / 256 / 256) + n % 256) (two w) ∙ div-add-mod (w / 256 / 256) 256)
-    (top w fits)
-
-abbrev wordFrom : List ℕ → ℕ → ℕ
-wordFrom s k = getD s k 0 + 256 * getD s (suc k) 0 + 65536 * getD s (suc (suc k)) 0 + 16777216 * getD s (suc (suc (suc k))) 0
-
-add-1 : (k : ℕ) → k + 1 ≡ suc k
-add-1 k = omega arith
-
-add-2 : (k : ℕ) → k + 2 ≡ suc (suc k)
-add-2 k = omega arith
-
-add-3 : (k : ℕ) → k + 3 ≡ suc (suc (suc k))
-add-3 k = omega arith
-
-from : (s : List ℕ) (i : ℕ) → wordAt s i ≡ wordFrom s (4 * i)
-unfolding wordAt
-from s i = rw (add-1 (4 * i), add-2 (4 * i), add-3 (4 * i))
-
-four : (i : ℕ) → 4 * suc i ≡ suc (suc (suc (suc (4 * i))))
-four i = omega arith
-
-past : (w i : ℕ) (ws : List ℕ) → wordFrom (bytesOf (w ∷ ws)) (4 * suc i) ≡ wordFrom (bytesOf ws) (4 * i)
-unfolding bytesOf
-past w i ws = ap (wordFrom (bytesOf (w ∷ ws))) (four i)
-
-read-from : (ws : List ℕ) (i : ℕ) → getD ws i 0 < 4294967296 → wordFrom (bytesOf ws) (4 * i) ≡ getD ws i 0
-unfolding bytesOf
-read-from [] i fits = refl
-read-from (w ∷ ws) zero fits = joined w fits
-read-from (w ∷ ws) (suc i) fits = past w i ws ∙ read-from ws i fits
-
-pub read-back : (ws : List ℕ) (i : ℕ) → getD ws i 0 < 4294967296 → wordAt (bytesOf ws) i ≡ getD ws i 0
-read-back ws i fits = from (bytesOf ws) i ∙ read-from ws i fits
 
 -- ---- parts
 abbrev pub start : List Part → ℕ → ℕ

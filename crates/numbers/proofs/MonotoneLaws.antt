@@ -1,4 +1,5 @@
--- Rounding keeps the order of numbers of either sign: so does subtracting a number from both, and so does narrowing. Assumes nothing.
+-- Rounding keeps the order of numbers of either sign: so does subtracting a number from both, and so does narrowing; and a number that is
+-- not below 0 takes nothing away where it is added, and adds nothing where it is taken away. Assumes nothing.
 use mathlib.Core.Path.{_≡_, refl, sym, ap, _∙_, subst}
 use mathlib.Core.Logic.{_⊎_, inl, inr}
 use mathlib.Core.Bool.{Bool, true, false, cond, not, _&&_, _||_, false≢true}
@@ -330,6 +331,55 @@ sub-less f (fin s m e) (inf true) t p h = absurd h
 sub-less f (fin s m e) (inf false) t p h = tt
 sub-less f (fin s m e) (fin v q g) t p h =
     less f s m e v (q * up g) (down g) (down-pos g) t (none-above v (q * up g) (down e) (down g) (of-le false v _ _ h))
+
+-- ---- and with one that is not below 0 added
+
+value-neg : (r : Float) (s : Bool) (a c : ℕ) → HasValue r s a c → HasValue (neg r) (not s) a c
+unfolding neg
+value-neg nan s a c v = v
+value-neg (inf t) s a c v = v
+value-neg (fin t k g) s a c v = (ap not (v .0), v .1)
+
+neg-neg : (x : Float) → neg (neg x) ≡ x
+unfolding neg
+neg-neg nan = refl
+neg-neg (inf true) = refl
+neg-neg (inf false) = refl
+neg-neg (fin true m e) = refl
+neg-neg (fin false m e) = refl
+
+from-value : (x r : Float) (s : Bool) (m : ℕ) (e : ℤ) → HasValue r s (m * up e) (down e) → T (le r x) → T (le (fin s m e) x)
+unfolding neg
+from-value x r s m e v h =
+    subst (λ (z : Float). T (le z x)) (neg-neg (fin s m e))
+    (subst (λ (z : Float). T (le (neg (neg (fin s m e))) z)) (neg-neg x)
+    (neg-le (neg x) (neg (fin s m e)) (by-value (neg x) (neg r) (not s) m e (value-neg r s _ _ v) (neg-le r x h))))
+
+none-beneath : (v : Bool) (q e h : ℕ) → IsAtMost false (0 * 1 * h) v (q * 1) → beneath v (q * e) ≡ 0
+none-beneath false q e h l = refl
+none-beneath true q e h l = let z : q ≡ 0 = omega arith in ap (λ (k : ℕ). k * e) z ∙ omega arith
+
+given : (a b w k e h : ℕ) → k ≡ 0 → a * (e * h) + (b * h + k) * e ≤ (a * h + w) * e + b * (e * h)
+given a b w k e h z = rw z (simp (add-mul, mul-assoc, mul-comm) (omega arith))
+
+more : (f : Format) (s : Bool) (m : ℕ) (e : ℤ) (v : Bool) (q h : ℕ) → 0 < h → T (fits f (fin s m e)) → beneath v (q * down e) ≡ 0
+    → T (le (fin s m e) (sum f s (m * up e * h) v (q * down e) (down e * h)))
+more f s m e v q h H t z =
+    from-value _ (round f s (m * up e) (down e)) s m e (held-exact f s m e t)
+    (rounded-mono f _ _ (down e) _ _ (down e * h) _ _ (down-pos e) (mul-pos (down-pos e) H)
+    (rw (above-mul s (m * up e) h, beneath-mul s (m * up e) h) (given (above s (m * up e)) (beneath s (m * up e)) _ _ (down e) h z))
+    (one-rounded f s (m * up e) (down e))
+    (sum-rounded f s (m * up e * h) v (q * down e) (down e * h)))
+
+pub add-more : (f : Format) (x y : Float) → T (fits f x) → isFinite x ≡ true → T (le F32.zero y) → T (le x (add f x y))
+unfolding add le ofBits isFinite
+add-more f nan y t p h = absurd (false≢true p)
+add-more f (inf s) y t p h = absurd (false≢true p)
+add-more f (fin s m e) nan t p h = absurd h
+add-more f (fin s m e) (inf true) t p h = absurd h
+add-more f (fin s m e) (inf false) t p h = tt
+add-more f (fin s m e) (fin v q g) t p h =
+    more f s m e v (q * up g) (down g) (down-pos g) t (none-beneath v (q * up g) (down e) (down g) (of-le false v _ _ h))
 
 -- ---- what is at most a number below 0 is below 0
 

@@ -21,9 +21,12 @@ are-presses-finite-requires c κs = search needs
 is-rect-finite-requires : tie.Need-is-rect-finite-requires
 is-rect-finite-requires c κs = search needs
 
+is-finite-f64-requires : tie.Need-is-finite-f64-requires
+is-finite-f64-requires c κs = search needs
+
 returns : tie.Need-returns
 unfolding isStateFinite
-returns c = rw (← c .before .before .before .before .before .is-pair-finite .ensures, ← c .before .before .before .before .is-pair-finite2 .ensures, ← c .before .before .before .are-targets-finite .ensures, ← c .before .before .is-pair-finite3 .ensures, ← c .before .are-presses-finite .ensures, ← c .is-rect-finite .ensures)
+returns c = rw (← c .before .before .before .before .before .before .is-pair-finite .ensures, ← c .before .before .before .before .before .is-pair-finite2 .ensures, ← c .before .before .before .before .are-targets-finite .ensures, ← c .before .before .before .is-pair-finite3 .ensures, ← c .before .before .are-presses-finite .ensures, ← c .before .is-rect-finite .ensures, ← c .is-finite-f64 .ensures)
 
 pub is-state-finite-spec : {M : Type 1} → statement M
 is-state-finite-spec =
@@ -35,4 +38,5 @@ is-state-finite-spec =
     is-pair-finite-requires-3
     are-presses-finite-requires
     is-rect-finite-requires
+    is-finite-f64-requires
     returns)
