@@ -6,10 +6,10 @@ ghost use Rattle.area.specs.SettlingRun as Spec;
 ghost use Rattle.area.specs.Lists.{SettleSays};
 use crate::call::frame_by;
 use crate::checks::refusal_of;
+use crate::clock::put_time;
 use crate::host_words::time;
 use crate::moved::is_moved_by_words;
 use crate::state::State;
-use numbers::bits_of_f64;
 
 // The refusal or 0, the frames used, and the state after them.
 pub struct Settled {
@@ -115,5 +115,5 @@ fn advance(frame: &mut [u8], increment: f64)
     ensures { λ _. ⌜ now (frame .exit) ≡ Spec.advanced increment (now (frame .entry)) ⌝ }
 {
     let next = time(frame) + increment;
-    words::put(frame, 51, &words::long_words(bits_of_f64(next)));
+    put_time(frame, 51, next);
 }

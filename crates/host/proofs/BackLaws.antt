@@ -2,8 +2,7 @@
 use mathlib.Core.Path.{_≡_, refl, ap, _∙_}
 use mathlib.Core.Bool.{Bool, true, false}
 use mathlib.Core.List.{List, [], _∷_}
-use Prim.Native.Nat.{ℕ, _+_, _*_, _/_, _%_, _<_}
-use native.Mathlib.Nat.{div-add-mod}
+use Prim.Native.Nat.{ℕ, _+_, _<_}
 use native.Mathlib.Omega.{arith}
 use lib.Dec.{eqb, ltb, lit<}
 use lib.ListN.{getD}
@@ -21,10 +20,11 @@ use Rattle.area.specs.declared.state.MaybeRect.{MaybeRect}
 use Rattle.host.specs.Record.{numberWord, flagWord, numberWords, flagWords, targetWords, pressWords, maybeRectWords, stateWords, recordOf}
 use Rattle.host.specs.Record.{maybeTargetNo, offsetTargetNo, maybePressNo, startOffsetNo, stateOf, isNoFlag, isDamaged}
 use Rattle.host.specs.Record.{Is32, Is64, ArePair, AreFlags, IsTarget, AreTargets, IsPress, ArePresses, IsRect, IsHeld}
+use Rattle.area.proofs.TimeLaws.{low-small, high-small, time-back}
 use Rattle.host.proofs.RecordLaws.{stateParts, state-right}
 use Rattle.host.proofs.ReadLaws.{start, partAt, Reads, reads}
 
--- ---- a number, a flag, a time
+-- ---- a number, a flag
 number-small : (x : Float) → Is32 x → numberWord x < 4294967296
 number-small x held = toBits-lt binary32 x held
 
@@ -43,27 +43,6 @@ is-flag false = refl
 flag-back : (s : List ℕ) (n : ℕ) (b : Bool) → wordNo s n ≡ flagWord b → flagNo s n ≡ b
 unfolding flagNo
 flag-back s n b word = ap (λ (w : ℕ). eqb w 1) word ∙ is-flag b
-
-low-small : (t : ℕ) → t % 4294967296 < 4294967296
-low-small t = omega arith
-
-high-small : (t : Float) → Is64 t → toBits binary64 t / 4294967296 < 4294967296
-high-small t held = halved (toBits binary64 t) (toBits-lt binary64 t held)
-  where
-    halved : (b : ℕ) → b < 18446744073709551616 → b / 4294967296 < 4294967296
-    halved b fits = omega (arith, fits)
-
-time-back : (s : List ℕ) (n : ℕ) (t : Float) → Is64 t → wordNo s n ≡ toBits binary64 t % 4294967296
-    → wordNo s (n + 1) ≡ toBits binary64 t / 4294967296 → timeNo s n ≡ t
-unfolding timeNo
-time-back s n t held low high =
-    ap (λ (w : ℕ). ofBits binary64 (wordNo s (n + 1) * 4294967296 + w)) low
-    ∙ ap (λ (w : ℕ). ofBits binary64 (w * 4294967296 + toBits binary64 t % 4294967296)) high
-    ∙ ap (ofBits binary64) (joined (toBits binary64 t))
-    ∙ ofBits-toBits binary64 t held
-  where
-    joined : (b : ℕ) → b / 4294967296 * 4294967296 + b % 4294967296 ≡ b
-    joined b = omega (arith, div-add-mod b 4294967296)
 
 -- ---- pairs
 pair-back : (s : List ℕ) (n : ℕ) (v : List Float) → ArePair v → Reads s n (numberWords v) → pairNo s n ≡ v
@@ -157,6 +136,9 @@ written-is-read s held =
       flags-back b 29 (s .«scroll_stuck_to_end») (held .«scroll_stuck_to_end») (part s 10),
       rect-back b 31 (s .«interact_rect») (held .«interact_rect») (part s 11),
       flags-back b 36 (s .«bounced_this_momentum») (held .«bounced_this_momentum») (part s 12),
+      time-back b 38 (s .«remembered_time») (held .«remembered_time»)
+          (part s 13 0 38 refl (lit< tt) (low-small (toBits binary64 (s .«remembered_time»))))
+          (part s 13 1 39 refl (lit< tt) (high-small (s .«remembered_time») (held .«remembered_time»))),
     )
 
 -- ---- no flag that is written is damaged, whatever the state

@@ -1,5 +1,5 @@
--- The premises of `RecordRun`'s constructors are the contracts of strakobud_frame, strakobud_settle and the same under a table, as `rattle check`
--- makes them from the source, and what the type of a frame and of a table says of each byte: a contract that says anything else is refused here.
+-- The premises of `RecordRun`'s constructors are the contracts of strakobud_frame, strakobud_settle, the same under a table, and strakobud_reset,
+-- as `rattle check` makes them from the source, and what the type of a frame and of a table says of each byte: a contract that says anything else is refused here.
 -- Assumes nothing.
 use mathlib.Core.Path.{_≡_, refl}
 use mathlib.Core.List.{List, [], _∷_}
@@ -21,10 +21,11 @@ use denote.Array.{Array}
 use denote.Ref.{now}
 use denote.Triple.Entry.{Args}
 use denote.Triple.Clauses.{AtExit}
-use Rattle.host.specs.Lists.{FrameOnSays, SettleOnSays}
+use Rattle.host.specs.Lists.{FrameOnSays, SettleOnSays, ResetOnSays}
 use Rattle.numbers.specs.Table.{tableOf}
 use Rattle.host.proofs.area_calls.strakobud_frame as frame
 use Rattle.host.proofs.area_calls.strakobud_frame_by as frame-by
+use Rattle.host.proofs.area_calls.strakobud_reset as reset
 use Rattle.host.proofs.settle_calls.strakobud_settle as settle
 use Rattle.host.proofs.settle_calls.strakobud_settle_by as settle-by
 
@@ -71,6 +72,14 @@ module _ {M : Type 1} (𝓤 : URA M) (H : Heap 𝓤) (A : Atoms 𝓤) (mem : Mem
 
   pub settle-by-asks : (κs : Lfts 5) (a : Args settle-by.signature κs) → settle-by.clauses 𝓤 H A mem run κs a .requires tt ≡ emp 𝓤
   settle-by-asks κs a = refl
+
+  -- `strakobud_reset`, on the reference a .0 (the record), which at exit is e .0
+  pub reset-says : (κs : Lfts 1) (a : Args reset.signature κs) (r : Unit {0}) (e : AtExit reset.ended κs)
+      → reset.clauses 𝓤 H A mem run κs a .ensures tt r e ≡ fact 𝓤 (ResetOnSays (now (a .0)) (now (e .0)))
+  reset-says κs a r e = refl
+
+  pub reset-asks : (κs : Lfts 1) (a : Args reset.signature κs) → reset.clauses 𝓤 H A mem run κs a .requires tt ≡ emp 𝓤
+  reset-asks κs a = refl
 
 -- a byte b of the frame or of a table, at the machine values vs
 pub byte-says : (b : ℕ) (vs : List Val) → Is u8 b vs ≡ ((vs ≡ vint w8 b ∷ []) × (b < 256))

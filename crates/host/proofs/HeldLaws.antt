@@ -65,4 +65,5 @@ read-is-held s = record {
   «scroll_stuck_to_end» = flags s 29;
   «interact_rect» = rect s 31;
   «bounced_this_momentum» = flags s 36;
+  «remembered_time» = time s 38;
 }

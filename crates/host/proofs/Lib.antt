@@ -6,6 +6,7 @@ pub mod BackLaws
 pub mod TableLaws
 pub mod SettlingRunLaws
 pub mod HeldLaws
+pub mod ResetLaws
 pub mod TypedLaws
 pub mod CalledLaws
 pub mod RunHeldLaws

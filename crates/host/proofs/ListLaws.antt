@@ -8,17 +8,18 @@ use Prim.Native.Nat.{ℕ, zero, suc, _≤_}
 use native.Mathlib.Omega.{arith}
 use borrow.Author.Tests.{ltb-false}
 use lib.Dec.{eqb, ltb}
-use lib.Ieee.{Float, binary32}
+use lib.Ieee.{Float, binary32, binary64}
 use lib.Ieee.Bits.{ofBits-fits}
 use Rattle.words.specs.Words.{bytesOf}
 use Rattle.numbers.specs.F32 as F32
 use Rattle.numbers.specs.Table.{Table, tableOf}
 use Rattle.area.specs.State.{default}
-use Rattle.area.specs.Steps.{Fed, stepAt, stepFed, stateFrom, isAccepted, acceptedFrom}
+use Rattle.area.specs.Clock.{resetOf}
+use Rattle.area.specs.Steps.{Fed, fedFrame, fedReset, stepAt, stateFrom, isAccepted, acceptedFrom}
 use Rattle.area.specs.SettlingRun.{settleRefusal, advanced, endedWith, settleFrom, framesFrom, framesOf, settledBy}
 use Rattle.area.specs.SettlingRun as area
 use Rattle.area.specs.Listing.{listingWords, listing, ListingShown}
-use Rattle.area.specs.Lists.{framesIn, feedFrom, toldFrom, AllLists}
+use Rattle.area.specs.Lists.{fedBy, feedFrom, toldFrom, AllLists}
 use Rattle.area.specs.declared.state.State.{State}
 use Rattle.area.specs.declared.outcome.Answer.{Answer}
 use Rattle.area.specs.declared.«settling_run».Settled.{Settled}
@@ -28,13 +29,15 @@ use Rattle.area.proofs.SettlingRunLaws.{whole-of-run}
 use Rattle.area.proofs.RunLaws.{goes, none-used, run-holds}
 use Rattle.area.proofs.ListLaws.{state-after}
 use Rattle.host.specs.Record.{recordOf, outWords, stateOf, isDamaged, ArePair, IsHeld}
-use Rattle.host.specs.Calls.{FrameLeft, leftBy, frameUnder, freshBytes}
+use Rattle.host.specs.Calls.{FrameLeft, leftBy, frameUnder, freshBytes, resetOn}
 use Rattle.host.specs.SettlingRun.{RunLeft, incrementOf, limitOf, upFrontOn, ranUnder, ranBy, settleUnder}
-use Rattle.host.specs.Lists.{FrameOnSays, SettleOnSays, AreBytes, AreTable, RecordCall, onFrame, onRun, RecordTold, ofFrame, ofRun}
-use Rattle.host.specs.Lists.{callOf, AreCall, AreCalls, AreFrames, RecordRun, ends, framed, settled, AnswersAlong, no-more, frame-too, run-too}
-use Rattle.host.specs.Lists.{feedOn, RecordWhole, AllRecordLists}
+use Rattle.host.specs.Lists.{FrameOnSays, SettleOnSays, AreBytes, AreTable, RecordCall, onFrame, onRun, onReset}
+use Rattle.host.specs.Lists.{RecordTold, ofFrame, ofRun, ofReset}
+use Rattle.host.specs.Lists.{callOf, AreCall, AreCalls, AreFrames, RecordRun, ends, framed, settled, cleared}
+use Rattle.host.specs.Lists.{AnswersAlong, no-more, frame-too, run-too, reset-too, feedOn, RecordWhole, AllRecordLists}
 use Rattle.host.proofs.BackLaws.{written-is-read, written-is-undamaged}
 use Rattle.host.proofs.HeldLaws.{read-is-held}
+use Rattle.host.proofs.ResetLaws.{reset-of}
 use Rattle.host.proofs.CalledLaws.{call-is-held, held-is-read-back}
 use Rattle.host.proofs.RunHeldLaws.{words-are, advanced-are, run-is-held}
 
@@ -181,6 +184,16 @@ same (settled {s} {frame} {table} {run} {used} {r} {calls} {answers} {t} are len
       is-record = rest .is-record;
     }
 
+same (cleared {s} {r} {calls} {answers} {t} says run) is =
+    let o = reset-of s is in
+    let stands = ap stateOf says ∙ o .stands in
+    let rest = same run (says ∙ o .written ∙ ap recordOf (sym stands)) in
+    record {
+      answers-same = reset-too says stands (subst (λ (S : State). AlongOn S r calls answers) stands (rest .answers-same));
+      state-same = subst (λ (S : State). ReachedOn S calls t) stands (rest .state-same);
+      is-record = rest .is-record;
+    }
+
 -- each list has a run
 pub run-of : (s : List ℕ) (calls : List RecordCall) → AreCalls calls → (answers : List RecordTold) × (t : List ℕ) × RecordRun s calls answers t
 run-of s [] are = ([], s, ends)
@@ -192,27 +205,34 @@ run-of s (onRun frame table run used ∷ calls) are =
     let r = settleUnder (tableOf table) s frame run used in
     let rest = run-of (r .state) calls (are .1) in
     (ofRun r ∷ rest .0, rest .1, settled (are .0 .0) (are .0 .1) refl (rest .2))
+run-of s (onReset ∷ calls) are =
+    let rest = run-of (resetOn s) calls (are .1) in
+    (ofReset (resetOn s) ∷ rest .0, rest .1, cleared refl (rest .2))
 
 -- ---- the accepted frames alone: every frame that the steps are fed is one that a call can be made on
-record IsLent (fed : Fed) : Type 0 where
+record IsLent (used : Table) (bytes : List ℕ) : Type 0 where
   pub table : List ℕ
-  pub are : AreBytes (fed .bytes)
+  pub are : AreBytes bytes
   pub lent : AreTable table
-  pub same : tableOf table ≡ fed .table
+  pub same : tableOf table ≡ used
 
 abbrev AllLent : List Fed → Type 0
 AllLent [] = Unit {0}
-AllLent (fed ∷ frames) = IsLent fed × AllLent frames
+AllLent (fedFrame used bytes ∷ frames) = IsLent used bytes × AllLent frames
+AllLent (fedReset ∷ frames) = AllLent frames
 
 both-lent : (frames others : List Fed) → AllLent frames → AllLent others → AllLent (frames ++ others)
 both-lent [] others all too = too
-both-lent (fed ∷ frames) others all too = (all .0, both-lent frames others (all .1) too)
+both-lent (fedFrame used bytes ∷ frames) others all too = (all .0, both-lent frames others (all .1) too)
+both-lent (fedReset ∷ frames) others all too = both-lent frames others all too
 
 accepted-lent : (S : State) (frames : List Fed) → AllLent frames → AllLent (acceptedFrom S frames)
 accepted-lent S [] all = tt
-accepted-lent S (fed ∷ rest) all =
-    let others = accepted-lent (stepFed S fed .state) rest (all .1) in
-    either AllLent (isAccepted (stepFed S fed)) (fed ∷ acceptedFrom (stepFed S fed .state) rest) (acceptedFrom (stepFed S fed .state) rest) (all .0, others) others
+accepted-lent S (fedFrame used bytes ∷ rest) all =
+    let after = stepAt used S bytes .state in
+    let others = accepted-lent after rest (all .1) in
+    either AllLent (isAccepted (stepAt used S bytes)) (fedFrame used bytes ∷ acceptedFrom after rest) (acceptedFrom after rest) (all .0, others) others
+accepted-lent S (fedReset ∷ rest) all = accepted-lent (resetOf S) rest all
 
 module _ (table : List ℕ) (lent : AreTable table) (increment : Float) where
   run-lent : (n : ℕ) (u : State) (frame : List ℕ) → AreBytes frame → AllLent (framesFrom (tableOf table) increment n u frame)
@@ -224,23 +244,25 @@ module _ (table : List ℕ) (lent : AreTable table) (increment : Float) where
         either AllLent (isAccepted r && r .outcome .repaint) (framesFrom (tableOf table) increment n (r .state) (advanced increment frame)) [] rest tt,
       )
 
-call-lent : (S : State) (call : RecordCall) → AreCall call → AllLent (framesIn S (callOf call))
+call-lent : (S : State) (call : RecordCall) → AreCall call → AllLent (fedBy S (callOf call))
 unfolding framesOf
 call-lent S (onFrame frame table out) are = (record { table = table; are = are .0; lent = are .1; same = refl }, tt)
 call-lent S (onRun frame table run used) are =
     either AllLent (eqb (settleRefusal S frame (incrementOf run) (limitOf run)) 0) (framesFrom (tableOf table) (incrementOf run) (limitOf run) S frame) []
     (run-lent table (are .1) (incrementOf run) (limitOf run) S frame (are .0)) tt
+call-lent S onReset are = tt
 
 feed-lent : (S : State) (calls : List RecordCall) → AreCalls calls → AllLent (feedFrom S (map callOf calls))
 feed-lent S [] are = tt
-feed-lent S (call ∷ calls) are = both-lent (framesIn S (callOf call)) _ (call-lent S call (are .0)) (feed-lent _ calls (are .1))
+feed-lent S (call ∷ calls) are = both-lent (fedBy S (callOf call)) _ (call-lent S call (are .0)) (feed-lent _ calls (are .1))
 
 calls-are : {s : List ℕ} {calls : List RecordCall} {answers : List RecordTold} {t : List ℕ} → RecordRun s calls answers t → AreCalls calls
 calls-are ends = tt
 calls-are (framed are lent says run) = ((are, lent), calls-are run)
 calls-are (settled are lent says run) = ((are, lent), calls-are run)
+calls-are (cleared says run) = (tt, calls-are run)
 
--- calls on given frames, and on no others
+-- calls on given frames with resets in their places, and no others
 record CallsOn (frames : List Fed) : Type 0 where
   pub calls : List RecordCall
   pub are : AreCalls calls
@@ -249,14 +271,22 @@ record CallsOn (frames : List Fed) : Type 0 where
 
 calls-on : (frames : List Fed) → AllLent frames → CallsOn frames
 calls-on [] all = record { calls = []; are = tt; are-frames = tt; feeds = λ S. refl }
-calls-on (fed ∷ frames) all =
+calls-on (fedFrame used bytes ∷ frames) all =
     let rest = calls-on frames (all .1) in
     let one = all .0 in
     record {
-      calls = onFrame (fed .bytes) (one .table) [] ∷ rest .calls;
+      calls = onFrame bytes (one .table) [] ∷ rest .calls;
       are = ((one .are, one .lent), rest .are);
       are-frames = rest .are-frames;
-      feeds = λ S i. record { table = one .same i; bytes = fed .bytes } ∷ rest .feeds (stepAt (tableOf (one .table)) S (fed .bytes) .state) i;
+      feeds = λ S i. fedFrame (one .same i) bytes ∷ rest .feeds (stepAt (tableOf (one .table)) S bytes .state) i;
+    }
+calls-on (fedReset ∷ frames) all =
+    let rest = calls-on frames all in
+    record {
+      calls = onReset ∷ rest .calls;
+      are = (tt, rest .are);
+      are-frames = rest .are-frames;
+      feeds = λ S. ap (λ (feed : List Fed). fedReset ∷ feed) (rest .feeds (resetOf S));
     }
 
 -- ---- the claim, of a record from whose state every list of calls goes as demand 3 says
@@ -278,6 +308,7 @@ whole-from s is all calls answers t run =
       same-record = recorded;
       accepted-alone = (alone .calls, ran .0, subst (RecordRun s (alone .calls) (ran .0)) ends-there (ran .2), alone .are-frames, alone .feeds S);
       distances = steps .distances;
+      clock = steps .clock;
     }
 
 -- ---- of the record that strakobud_fresh writes
@@ -298,6 +329,7 @@ fresh-is-held = record {
   «scroll_stuck_to_end» = tt;
   «interact_rect» = tt;
   «bounced_this_momentum» = tt;
+  «remembered_time» = ofBits-fits binary64 0;
 }
 
 fresh-stands : stateOf freshBytes ≡ default

@@ -8,13 +8,13 @@ use lib.Seq.{take-at, drop-at, drop-drop}
 use Rattle.words.specs.Words.{bytesOf, putAt}
 use Rattle.words.proofs.KeptLaws.{length-bytes}
 
-bytes-append : (v w : List ℕ) → bytesOf (v ++ w) ≡ bytesOf v ++ bytesOf w
+pub bytes-append : (v w : List ℕ) → bytesOf (v ++ w) ≡ bytesOf v ++ bytesOf w
 unfolding bytesOf
 bytes-append [] w = refl
 bytes-append (x ∷ v) w = ap (λ (r : List ℕ). bytesOf (x ∷ []) ++ r) (bytes-append v w)
 
 -- ---- one part
-put-after : (at : ℕ) (w p r : List ℕ) → length p ≡ 4 * at → putAt at w (p ++ r) ≡ p ++ (bytesOf w ++ drop (4 * length w) r)
+pub put-after : (at : ℕ) (w p r : List ℕ) → length p ≡ 4 * at → putAt at w (p ++ r) ≡ p ++ (bytesOf w ++ drop (4 * length w) r)
 unfolding putAt
 put-after at w p r here = rw (take-at p r (4 * at) here, drop-at p r (4 * at) here)
 
@@ -36,6 +36,10 @@ abbrev pub wordsOf : List Part → List ℕ
 wordsOf [] = []
 wordsOf (q ∷ qs) = q .1 ++ wordsOf qs
 
+pub words-append : (qs ps : List Part) → wordsOf (qs ++ ps) ≡ wordsOf qs ++ wordsOf ps
+words-append [] ps = refl
+words-append (q ∷ qs) ps = ap (λ (r : List ℕ). q .1 ++ r) (words-append qs ps) ∙ sym (append-assoc (q .1) (wordsOf qs) (wordsOf ps))
+
 abbrev pub total : List Part → ℕ
 total [] = 0
 total (q ∷ qs) = q .0 + total qs
@@ -43,6 +47,10 @@ total (q ∷ qs) = q .0 + total qs
 abbrev pub Right : List Part → Type 0
 Right [] = Unit {0}
 Right (q ∷ qs) = (length (q .1) ≡ q .0) × Right qs
+
+pub right-append : (qs ps : List Part) → Right qs → Right ps → Right (qs ++ ps)
+right-append [] ps r p = p
+right-append (q ∷ qs) ps r p = (r .0, right-append qs ps (r .1) p)
 
 pub total-is : (qs : List Part) → Right qs → length (wordsOf qs) ≡ total qs
 total-is [] r = refl

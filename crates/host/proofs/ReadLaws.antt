@@ -1,16 +1,16 @@
 -- Each part that words were put in is read back.
-use mathlib.Core.Path.{_≡_, refl, sym, ap, _∙_, subst}
+use mathlib.Core.Path.{_≡_, sym, ap, _∙_, subst}
 use mathlib.Core.List.{List, [], _∷_, _++_}
-use Prim.Native.Nat.{ℕ, zero, suc, _+_, _-_, _*_, _/_, _%_, _<_}
-use native.Mathlib.Nat.{not-suc-le-zero, zero-add, div-add-mod, div-div-eq-div-mul, mod-eq-of-lt}
+use Prim.Native.Nat.{ℕ, zero, suc, _+_, _-_, _<_}
+use native.Mathlib.Nat.{not-suc-le-zero, zero-add}
 use native.Mathlib.Omega.{arith}
 use lib.ListN.{length, getD, List·getD-append}
 use lib.Seq.{getD-append-add}
-use Rattle.words.specs.Words.{wordAt, bytesOfWord, bytesOf}
+use Rattle.words.specs.Words.{wordAt, bytesOf}
+use Rattle.words.proofs.ReadLaws.{read-back}
 use Rattle.area.specs.Frame.{wordNo}
 use Rattle.host.proofs.PartLaws.{Part, Right, wordsOf}
 
--- ---- parts
 abbrev pub start : List Part → ℕ → ℕ
 start qs zero = 0
 start [] (suc i) = 0

@@ -1,10 +1,12 @@
 -- The parts that the words of a state, and of what a frame puts out besides it, are put in.
 use mathlib.Core.Path.{_≡_, refl, _∙_}
-use mathlib.Core.List.{List, [], _∷_}
+use mathlib.Core.List.{List, [], _∷_, _++_}
 use Prim.Native.Nat.{ℕ}
 use lib.ListN.{length, getD}
+use lib.Ieee.{Float}
 use Rattle.words.specs.Words.{bytesOf}
 use Rattle.area.specs.State.{noTarget, noPress}
+use Rattle.area.specs.Frame.{timeWords}
 use Rattle.area.specs.Outcome.{noHandle}
 use Rattle.area.specs.declared.state.State.{State}
 use Rattle.area.specs.declared.state.MaybeTarget.{MaybeTarget}
@@ -12,7 +14,7 @@ use Rattle.area.specs.declared.state.MaybePress.{MaybePress}
 use Rattle.area.specs.declared.state.MaybeRect.{MaybeRect}
 use Rattle.area.specs.declared.outcome.Outcome.{Outcome}
 use Rattle.host.specs.Record.{flagWord, numberWords, flagWords, targetWords, pressWords, rectWords, maybeRectWords, stateWords, recordOf, outWords}
-use Rattle.host.proofs.PartLaws.{Part, Right, wordsOf, put-parts, Puts, puts}
+use Rattle.host.proofs.PartLaws.{Part, Right, right-append, wordsOf, put-parts, Puts, puts}
 
 pub target-length : (t : MaybeTarget) → length (targetWords t) ≡ 6
 target-length MaybeTarget.Nothing = refl
@@ -26,8 +28,9 @@ pub maybe-rect-length : (r : MaybeRect) → length (maybeRectWords r) ≡ 5
 maybe-rect-length MaybeRect.Nothing = refl
 maybe-rect-length (MaybeRect.Some r) = refl
 
-abbrev pub stateParts : State → List Part
-stateParts s =
+-- the Rust's own fields, and the remembered time behind them
+abbrev pub fieldParts : State → List Part
+fieldParts s =
     (2, numberWords (s .offset))
     ∷ (2, numberWords (s .«max_offset»))
     ∷ (6, targetWords (getD (s .«offset_target») 0 noTarget .target))
@@ -43,8 +46,14 @@ stateParts s =
     ∷ (2, flagWords (s .«bounced_this_momentum»))
     ∷ []
 
-pub state-right : (s : State) → Right (stateParts s)
-state-right s = (
+abbrev pub timeParts : Float → List Part
+timeParts t = (2, timeWords t) ∷ []
+
+abbrev pub stateParts : State → List Part
+stateParts s = fieldParts s ++ timeParts (s .«remembered_time»)
+
+pub field-right : (s : State) → Right (fieldParts s)
+field-right s = (
   refl,
   (
     refl,
@@ -75,6 +84,9 @@ state-right s = (
     ),
   ),
 )
+
+pub state-right : (s : State) → Right (stateParts s)
+state-right s = right-append (fieldParts s) (timeParts (s .«remembered_time»)) (field-right s) (refl, tt)
 
 pub state-words : (s : State) → wordsOf (stateParts s) ≡ stateWords s
 unfolding stateWords
@@ -110,7 +122,7 @@ out-right o = (
   ),
 )
 
-pub state-put : (s : State) {b t : List ℕ} → length b ≡ 148 → Puts 0 (stateParts s) b t → t ≡ recordOf s
+pub state-put : (s : State) {b t : List ℕ} → length b ≡ 156 → Puts 0 (stateParts s) b t → t ≡ recordOf s
 unfolding stateWords
 state-put s {b} whole calls = puts calls ∙ put-parts (stateParts s) b (state-right s) whole
 

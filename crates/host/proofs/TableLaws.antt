@@ -13,13 +13,13 @@ use lib.ListN.{length, getD}
 use Rattle.words.specs.Words.{wordAt, longAt, longWords, bytesOf, putAt}
 use Rattle.words.proofs.KeptLaws.{length-bytes}
 use Rattle.numbers.specs.Table.{Table, tableAt, tableOf, loadOf, IsTable, Served}
+use Rattle.words.proofs.ReadLaws.{read-back}
 use Rattle.numbers.proofs.TableLaws.{t-is-table, as-table, at-most}
 use Rattle.numbers.proofs.LoadLaws.{so-loads}
 use Rattle.host.specs.Calls.{frameUnder, stepUnder}
 use Rattle.host.specs.SettlingRun.{settleUnder}
 use Rattle.host.specs.Table.{entryWords, tableBytes, ServesAsT}
 use Rattle.host.proofs.PartLaws.{Part, Right, putParts, wordsOf, total, put-parts}
-use Rattle.host.proofs.ReadLaws.{read-back}
 
 -- ---- T's bytes, read entry by entry
 

@@ -104,6 +104,7 @@ typed-is-held s vs p =
       «scroll_stuck_to_end» = flags (s .«scroll_stuck_to_end») _ (is .1 .1 .1 .1 .1 .1 .1 .1 .0);
       «interact_rect» = rect (s .«interact_rect») _ (is .1 .1 .1 .1 .1 .1 .1 .1 .1 .0);
       «bounced_this_momentum» = flags (s .«bounced_this_momentum») _ (is .1 .1 .1 .1 .1 .1 .1 .1 .1 .1 .0);
+      «remembered_time» = number binary64 (s .«remembered_time») _ (is .1 .1 .1 .1 .1 .1 .1 .1 .1 .1 .1 .0);
     }
 
 -- ---- and back: a state that the code can hold has a machine value
@@ -201,10 +202,11 @@ held-is-typed s held =
     let p7 = presses-typed (s .«scroll_start_offset_from_top_left») (held .«scroll_start_offset_from_top_left») in
     let p8 = flags-typed (s .«scroll_stuck_to_end») (held .«scroll_stuck_to_end») in
     let p9 = rect-typed (s .«interact_rect») (held .«interact_rect») in
-    let p10 = flags-typed (s .«bounced_this_momentum») (held .«bounced_this_momentum») in (
+    let p10 = flags-typed (s .«bounced_this_momentum») (held .«bounced_this_momentum») in
+    let p11 = number-typed binary64 (s .«remembered_time») (held .«remembered_time») in (
       _,
       (
-        (_, (_, (_, (_, (_, (_, (_, (_, (_, (_, (_, tt))))))))))),
-        (refl, (p0 .1, (p1 .1, (p2 .1, (p3 .1, (p4 .1, (p5 .1, (p6 .1, (p7 .1, (p8 .1, (p9 .1, (p10 .1, tt)))))))))))),
+        (_, (_, (_, (_, (_, (_, (_, (_, (_, (_, (_, (_, tt)))))))))))),
+        (refl, (p0 .1, (p1 .1, (p2 .1, (p3 .1, (p4 .1, (p5 .1, (p6 .1, (p7 .1, (p8 .1, (p9 .1, (p10 .1, (p11, tt))))))))))))),
       ),
     )

@@ -3,7 +3,7 @@ use Prim.Native.Nat.{ℕ}
 use mathlib.Core.Bool.{Bool, cond, _||_}
 use mathlib.Core.List.{List, [], _∷_}
 use lib.Dec.{eqb, ltb}
-use Rattle.words.specs.Words.{bytesOf}
+use Rattle.words.specs.Words.{bytesOf, putAt}
 use Rattle.numbers.specs.Table.{Table, tableAt}
 use Rattle.axis.specs.Call.{dragCallOf, stepCallUnder, wheelCallOf}
 use Rattle.axis.specs.declared.physics.AxisPhysics.{AxisPhysics}
@@ -11,8 +11,8 @@ use Rattle.axis.specs.declared.wheel.WheelScroll.{WheelScroll}
 use Rattle.axis.specs.declared.call.DragAnswer.{DragAnswer}
 use Rattle.axis.specs.declared.call.StepAnswer.{StepAnswer}
 use Rattle.axis.specs.declared.call.WheelAnswer.{WheelAnswer}
-use Rattle.area.specs.State.{default, clampedOffset}
-use Rattle.area.specs.Frame.{wordNo, numberNo, flagNo, sourceNo}
+use Rattle.area.specs.State.{noTime, default, clampedOffset}
+use Rattle.area.specs.Frame.{wordNo, numberNo, flagNo, timeWords, sourceNo}
 use Rattle.area.specs.Checks.{frameRefusal}
 use Rattle.area.specs.Call.{callUnder}
 use Rattle.area.specs.declared.outcome.Answer.{Answer}
@@ -21,6 +21,10 @@ use Rattle.host.specs.Record.{numberWord, numberWords, flagWord, recordO
 -- strakobud_fresh
 unfoldable pub freshBytes : List ℕ
 freshBytes = recordOf default
+
+-- strakobud_reset: "clears that time and nothing else", whatever the other bytes hold
+unfoldable pub resetOn : List ℕ → List ℕ
+resetOn state = putAt 37 (timeWords noTime) state
 
 -- ---- strakobud_frame_by, and strakobud_frame
 pub record FrameLeft : Type 0 where

@@ -1,5 +1,5 @@
 -- A state, and what a frame puts out besides it, in 32-bit words "written as a frame writes its own": the fields in the Rust's
--- order; an absent option is zeros when written and ignored when read.
+-- order and the remembered time; an absent option is zeros when written and ignored when read.
 use Prim.Native.Nat.{ℕ, _+_}
 use mathlib.Core.Bool.{Bool, cond, _||_}
 use mathlib.Core.List.{List, [], _∷_, _++_}
@@ -49,7 +49,7 @@ abbrev pub maybeRectWords : MaybeRect → List ℕ
 maybeRectWords MaybeRect.Nothing = 0 ∷ 0 ∷ 0 ∷ 0 ∷ 0 ∷ []
 maybeRectWords (MaybeRect.Some r) = 1 ∷ rectWords r
 
--- the 37 words of a state
+-- the 39 words of a state
 unfoldable pub stateWords : State → List ℕ
 stateWords s =
     numberWords (s .offset)
@@ -64,7 +64,8 @@ stateWords s =
     ++ (pressWords (getD (s .«scroll_start_offset_from_top_left») 1 noPress .press)
     ++ (flagWords (s .«scroll_stuck_to_end»)
     ++ (maybeRectWords (s .«interact_rect»)
-    ++ flagWords (s .«bounced_this_momentum»))))))))))))
+    ++ (flagWords (s .«bounced_this_momentum»)
+    ++ timeWords (s .«remembered_time»)))))))))))))
 
 -- its record, in bytes
 abbrev pub recordOf : State → List ℕ
@@ -113,6 +114,7 @@ stateOf s = record {
   «scroll_stuck_to_end» = flagsNo s 29;
   «interact_rect» = maybeRectNo s 31;
   «bounced_this_momentum» = flagsNo s 36;
+  «remembered_time» = timeNo s 38;
 }
 
 -- "A state flag that is not 0 or 1 is a damaged state"
@@ -190,3 +192,4 @@ pub record IsHeld (s : State) : Type 0 where
   pub «scroll_stuck_to_end» : AreFlags (s .«scroll_stuck_to_end»)
   pub «interact_rect» : IsRect (s .«interact_rect»)
   pub «bounced_this_momentum» : AreFlags (s .«bounced_this_momentum»)
+  pub «remembered_time» : Is64 (s .«remembered_time»)

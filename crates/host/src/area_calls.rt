@@ -2,26 +2,35 @@
 ghost use mathlib.Core.Path.{_≡_};
 ghost use Rattle.numbers.specs.Table.{tableOf};
 ghost use Rattle.host.specs.Calls as Spec;
-ghost use Rattle.host.specs.Lists.{AllRecordLists};
+ghost use Rattle.host.specs.Lists.{AllRecordLists, ResetOnSays};
 use crate::read::is_damaged;
 use crate::read::state_of;
 use crate::write::put_numbers;
 use crate::write::put_outcome;
 use crate::write::put_state;
 use area::State;
+use area::put_time;
 
-// A fresh state's record. Demand 3 holds of every list of frames and settling runs on it, under tables or not.
+// A fresh state's record. Demand 3 holds of every list of frames, settling runs and resets on it, under tables or not.
 #[no_mangle]
-pub extern "C" fn strakobud_fresh(state: &mut [u8; 148])
+pub extern "C" fn strakobud_fresh(state: &mut [u8; 156])
     ensures starts { λ _. ⌜ now (state .exit) ≡ Spec.freshBytes ⌝ }
     ensures lists { λ _. ⌜ AllRecordLists (now (state .exit)) ⌝ }
 {
     put_state(state, State::default());
 }
 
+// Words 38 and 39 alone.
+#[no_mangle]
+pub extern "C" fn strakobud_reset(state: &mut [u8; 156])
+    ensures { λ _. ⌜ ResetOnSays (now (state .entry)) (now (state .exit)) ⌝ }
+{
+    put_time(state, 37, 0.0);
+}
+
 // By table T.
 #[no_mangle]
-pub extern "C" fn strakobud_frame(state: &mut [u8; 148], frame: &[u8], out: &mut [u8; 100]) -> u32
+pub extern "C" fn strakobud_frame(state: &mut [u8; 156], frame: &[u8], out: &mut [u8; 100]) -> u32
     ensures { λ r. ⌜ record { refusal = r; state = now (state .exit); out = now (out .exit) }
         ≡ Spec.frameOn (now (state .entry)) (now (frame .entry)) (now (out .entry)) ⌝ }
 {
@@ -31,7 +40,7 @@ pub extern "C" fn strakobud_frame(state: &mut [u8; 148], frame: &[u8], out: &mut
 
 #[no_mangle]
 pub extern "C" fn strakobud_frame_by(
-    state: &mut [u8; 148],
+    state: &mut [u8; 156],
     frame: &[u8],
     table: &[u8; 8200],
     out: &mut [u8; 100],
@@ -43,7 +52,7 @@ pub extern "C" fn strakobud_frame_by(
 }
 
 // By the table that the bytes stand for.
-fn frame_under(state: &mut [u8; 148], frame: &[u8], table: &[u8], out: &mut [u8; 100]) -> u32
+fn frame_under(state: &mut [u8; 156], frame: &[u8], table: &[u8], out: &mut [u8; 100]) -> u32
     ensures { λ r. ⌜ record { refusal = r; state = now (state .exit); out = now (out .exit) }
         ≡ Spec.frameUnder (tableOf (now (table .entry))) (now (state .entry)) (now (frame .entry)) (now (out .entry)) ⌝ }
 {
@@ -72,7 +81,7 @@ pub fn damaged_refusal(frame: &[u8]) -> u32
 }
 
 #[no_mangle]
-pub extern "C" fn strakobud_offset(state: &[u8; 148], out: &mut [u8; 8]) -> u32
+pub extern "C" fn strakobud_offset(state: &[u8; 156], out: &mut [u8; 8]) -> u32
     ensures { λ r. ⌜ record { refusal = r; out = now (out .exit) } ≡ Spec.offsetOn (now (state .entry)) (now (out .entry)) ⌝ }
 {
     if is_damaged(state) {

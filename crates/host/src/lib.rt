@@ -11,6 +11,7 @@ pub use area_calls::strakobud_frame;
 pub use area_calls::strakobud_frame_by;
 pub use area_calls::strakobud_fresh;
 pub use area_calls::strakobud_offset;
+pub use area_calls::strakobud_reset;
 pub use axis_calls::strakobud_drag;
 pub use axis_calls::strakobud_step;
 pub use axis_calls::strakobud_step_by;

@@ -16,7 +16,7 @@ use area::pair_at;
 use area::time_at;
 use area::word_at;
 
-pub fn state_of(bytes: &[u8; 148]) -> State
+pub fn state_of(bytes: &[u8; 156]) -> State
     ensures { λ r. ⌜ r ≡ Spec.stateOf (now (bytes .entry)) ⌝ }
 {
     let s: &[u8] = bytes;
@@ -32,6 +32,7 @@ pub fn state_of(bytes: &[u8; 148]) -> State
         scroll_stuck_to_end: flags_at(s, 29),
         interact_rect: maybe_rect_at(s, 31),
         bounced_this_momentum: flags_at(s, 36),
+        remembered_time: time_at(s, 38),
     }
 }
 
@@ -83,7 +84,7 @@ pub fn is_no_flags(s: &[u8], m: u32, n: u32) -> bool
 }
 
 // A flag of a state that is not 0 or 1.
-pub fn is_damaged(bytes: &[u8; 148]) -> bool
+pub fn is_damaged(bytes: &[u8; 156]) -> bool
     ensures { λ r. ⌜ r ≡ Spec.isDamaged (now (bytes .entry)) ⌝ }
 {
     let s: &[u8] = bytes;

@@ -15,7 +15,7 @@ use area::word_at;
 // By table T.
 #[no_mangle]
 pub extern "C" fn strakobud_settle(
-    state: &mut [u8; 148],
+    state: &mut [u8; 156],
     frame: &[u8],
     run: &[u8; 12],
     used: &mut [u8; 4],
@@ -29,7 +29,7 @@ pub extern "C" fn strakobud_settle(
 
 #[no_mangle]
 pub extern "C" fn strakobud_settle_by(
-    state: &mut [u8; 148],
+    state: &mut [u8; 156],
     frame: &[u8],
     table: &[u8; 8200],
     run: &[u8; 12],
@@ -43,7 +43,7 @@ pub extern "C" fn strakobud_settle_by(
 
 // By the table that the bytes stand for.
 fn settle_under(
-    state: &mut [u8; 148],
+    state: &mut [u8; 156],
     frame: &[u8],
     table: &[u8],
     run: &[u8; 12],
@@ -66,7 +66,7 @@ fn settle_under(
 }
 
 // The lowest of 1 to 6 that applies to the frame and the record as given, then 9, or 0.
-fn up_front(state: &[u8; 148], frame: &[u8], run: &[u8; 12]) -> u32
+fn up_front(state: &[u8; 156], frame: &[u8], run: &[u8; 12]) -> u32
     ensures { λ r. ⌜ r ≡ Spec.upFrontOn (now (state .entry)) (now (frame .entry)) (now (run .entry)) ⌝ }
 {
     if is_damaged(state) {

@@ -11,11 +11,12 @@ use area::OffsetTarget;
 use area::Outcome;
 use area::StartOffset;
 use area::State;
+use area::put_time;
 use numbers::Rect;
 use numbers::bits_of_f32;
 use numbers::bits_of_f64;
 
-pub fn put_state(bytes: &mut [u8; 148], s: State)
+pub fn put_state(bytes: &mut [u8; 156], s: State)
     ensures { λ _. ⌜ now (bytes .exit) ≡ Spec.recordOf s ⌝ }
 {
     let offset = s.offset;
@@ -42,6 +43,7 @@ pub fn put_state(bytes: &mut [u8; 148], s: State)
     put_maybe_rect(bytes, 30, rect);
     let bounced = s.bounced_this_momentum;
     put_flags(bytes, 35, bounced);
+    put_time(bytes, 37, s.remembered_time);
 }
 
 pub fn put_outcome(bytes: &mut [u8; 100], o: Outcome)

@@ -43,23 +43,27 @@ maybe-rect-at-requires c κs = search needs
 flags-at-requires-5 : tie.Need-flags-at-requires-5
 flags-at-requires-5 c κs = omega (arith, c .before .before .before .before .before .before .before .before .before .before .before .before .s .given)
 
+time-at-requires : tie.Need-time-at-requires
+time-at-requires c κs = omega (arith, c .before .before .before .before .before .before .before .before .before .before .before .before .before .s .given)
+
 returns : tie.Need-returns
 unfolding stateOf
 returns c =
     rw (
-      ← c .before .before .before .before .before .before .before .before .before .before .before .before .pair-at .ensures,
-      ← c .before .before .before .before .before .before .before .before .before .before .before .pair-at2 .ensures,
-      ← c .before .before .before .before .before .before .before .before .before .before .offset-target-at .ensures,
-      ← c .before .before .before .before .before .before .before .before .before .offset-target-at2 .ensures,
-      ← c .before .before .before .before .before .before .before .before .flags-at .ensures,
-      ← c .before .before .before .before .before .before .before .flags-at2 .ensures,
-      ← c .before .before .before .before .before .before .flags-at3 .ensures,
-      ← c .before .before .before .before .before .pair-at3 .ensures,
-      ← c .before .before .before .before .start-offset-at .ensures,
-      ← c .before .before .before .start-offset-at2 .ensures,
-      ← c .before .before .flags-at4 .ensures,
-      ← c .before .maybe-rect-at .ensures,
-      ← c .flags-at5 .ensures,
+      ← c .before .before .before .before .before .before .before .before .before .before .before .before .before .pair-at .ensures,
+      ← c .before .before .before .before .before .before .before .before .before .before .before .before .pair-at2 .ensures,
+      ← c .before .before .before .before .before .before .before .before .before .before .before .offset-target-at .ensures,
+      ← c .before .before .before .before .before .before .before .before .before .before .offset-target-at2 .ensures,
+      ← c .before .before .before .before .before .before .before .before .before .flags-at .ensures,
+      ← c .before .before .before .before .before .before .before .before .flags-at2 .ensures,
+      ← c .before .before .before .before .before .before .before .flags-at3 .ensures,
+      ← c .before .before .before .before .before .before .pair-at3 .ensures,
+      ← c .before .before .before .before .before .start-offset-at .ensures,
+      ← c .before .before .before .before .start-offset-at2 .ensures,
+      ← c .before .before .before .flags-at4 .ensures,
+      ← c .before .before .maybe-rect-at .ensures,
+      ← c .before .flags-at5 .ensures,
+      ← c .time-at .ensures,
     )
 
 pub state-of-spec : {M : Type 1} → statement M
@@ -79,4 +83,5 @@ state-of-spec =
     flags-at-requires-4
     maybe-rect-at-requires
     flags-at-requires-5
+    time-at-requires
     returns)

@@ -55,9 +55,13 @@ put-maybe-rect-requires c κs = search needs
 put-flags-requires-5 : tie.Need-put-flags-requires-5
 put-flags-requires-5 c κs = search needs
 
+put-time-requires : tie.Need-put-time-requires
+put-time-requires c κs = search needs
+
 returns : tie.Need-returns
 returns c =
-    let at-put-maybe-rect = c .before .before .before in
+    let at-put-flags5 = c .before .before in
+    let at-put-maybe-rect = at-put-flags5 .before .before .before in
     let at-put-flags4 = at-put-maybe-rect .before .before in
     let at-put-press2 = at-put-flags4 .before .before .before in
     let at-put-press = at-put-press2 .before .before .before in
@@ -84,7 +88,8 @@ returns c =
     (next (at-put-press2 .put-press2 .ensures)
     (next (at-put-flags4 .put-flags4 .ensures)
     (next (at-put-maybe-rect .put-maybe-rect .ensures)
-    (next (c .put-flags5 .ensures) done)))))))))))))
+    (next (at-put-flags5 .put-flags5 .ensures)
+    (next (c .put-time .ensures) done))))))))))))))
 
 pub put-state-spec : {M : Type 1} → statement M
 put-state-spec =
@@ -107,4 +112,5 @@ put-state-spec =
     put-flags-requires-4
     put-maybe-rect-requires
     put-flags-requires-5
+    put-time-requires
     returns)
