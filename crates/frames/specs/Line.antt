@@ -29,11 +29,17 @@ digitsOf x = digitsOfWord (toBits binary32 x)
 unfoldable pub flagOf : Bool → ℕ
 flagOf b = cond b 49 48
 
--- the line, with single spaces and a line feed
-unfoldable pub lineOf : ℕ → List Float → List Float → List Bool → List ℕ
-lineOf refusal offset vel stuck =
-    glyphOf refusal
-    ∷ 32
+-- a refusal in decimal, which has two digits at most
+abbrev pub digitOf : ℕ → ℕ
+digitOf n = 48 + n % 10
+
+unfoldable pub decimalOf : ℕ → List ℕ
+decimalOf n = cond (ltb n 10) (digitOf n ∷ []) (digitOf (n / 10) ∷ digitOf n ∷ [])
+
+-- the line behind its refusal, with single spaces and a line feed
+abbrev pub restOf : List Float → List Float → List Bool → List ℕ
+restOf offset vel stuck =
+    32
     ∷ (digitsOf (getD offset 0 nan)
     ++ (32
     ∷ (digitsOf (getD offset 1 nan)
@@ -42,3 +48,10 @@ lineOf refusal offset vel stuck =
     ++ (32
     ∷ (digitsOf (getD vel 1 nan)
     ++ (32 ∷ flagOf (getD stuck 0 false) ∷ flagOf (getD stuck 1 false) ∷ 10 ∷ []))))))))
+
+unfoldable pub lineOf : ℕ → List Float → List Float → List Bool → List ℕ
+lineOf refusal offset vel stuck = decimalOf refusal ++ restOf offset vel stuck
+
+-- with two digits for the refusal, whatever it is
+unfoldable pub wideLineOf : ℕ → List Float → List Float → List Bool → List ℕ
+wideLineOf refusal offset vel stuck = digitOf (refusal / 10) ∷ digitOf refusal ∷ restOf offset vel stuck

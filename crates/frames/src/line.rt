@@ -1,18 +1,39 @@
 // A line of the listing, a function of its numbers alone.
 ghost use mathlib.Core.Path.{_≡_};
-ghost use Prim.Native.Nat.{_<_};
+ghost use Prim.Native.Nat.{_≤_};
+ghost use lib.ListN.{drop};
 ghost use Rattle.frames.specs.Line as Spec;
 
+// The line stands from `start` on: behind the first digit where the refusal has one alone.
+pub struct Line {
+    pub start: usize,
+    pub bytes: [u8; 42],
+}
+
 // The refusal or 0, offset x and y and velocity x and y as the digits of their bits, and the stuck flags.
-pub fn line_of(refusal: u32, offset: [f32; 2], vel: [f32; 2], stuck: [bool; 2]) -> [u8; 41]
-    ensures { λ r. ⌜ r ≡ Spec.lineOf refusal offset vel stuck ⌝ }
+pub fn line_of(refusal: u32, offset: [f32; 2], vel: [f32; 2], stuck: [bool; 2]) -> Line
+    ensures is_line { λ r. ⌜ drop (r .start) (r .bytes) ≡ Spec.lineOf refusal offset vel stuck ⌝ }
+    ensures starts { λ r. ⌜ r .start ≤ 1 ⌝ }
+{
+    let bytes = wide_line(refusal, offset, vel, stuck);
+    let short = refusal < 10;
+    if short {
+        return Line { start: 1, bytes };
+    }
+    Line { start: 0, bytes }
+}
+
+// With two digits for the refusal.
+fn wide_line(refusal: u32, offset: [f32; 2], vel: [f32; 2], stuck: [bool; 2]) -> [u8; 42]
+    ensures { λ r. ⌜ r ≡ Spec.wideLineOf refusal offset vel stuck ⌝ }
 {
     let a = digits_of(offset[0]);
     let b = digits_of(offset[1]);
     let c = digits_of(vel[0]);
     let d = digits_of(vel[1]);
     [
-        glyph(refusal),
+        digit(refusal / 10),
+        digit(refusal),
         32,
         a[0],
         a[1],
@@ -83,6 +104,13 @@ fn glyph(w: u32) -> u8
         return (48 + d) as u8;
     }
     (87 + d) as u8
+}
+
+// The last decimal digit of n.
+fn digit(n: u32) -> u8
+    ensures { λ r. ⌜ r ≡ Spec.digitOf n ⌝ }
+{
+    (48 + n % 10) as u8
 }
 
 fn flag(b: bool) -> u8

@@ -48,7 +48,9 @@ fn print_line(answer: Answer) -> bool {
     let vel = state.vel;
     let stuck = state.scroll_stuck_to_end;
     let line = line_of(answer.outcome.refusal, offset, vel, stuck);
-    io::write_all(STDOUT_FILENO, &line)
+    let start = line.start;
+    let bytes = line.bytes;
+    io::write_all(STDOUT_FILENO, &bytes[start..])
 }
 
 // A proved loop has to end, and nothing says that the input does: it counts down from a number that no run uses up.

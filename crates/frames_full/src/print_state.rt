@@ -48,6 +48,7 @@ fn print_ends(state: State) {
     print_flags(stuck);
     print_maybe_rect(rect);
     print_flags(bounced);
+    print_wide(state.remembered_time);
 }
 
 fn print_target(t: OffsetTarget) {

@@ -1,5 +1,5 @@
-// Runs checks 1 to 6 on stored frames and states and prints each answer, with the word that made the frame bad, or
-// 0. A record on standard input is a word, the frame's length; 424 bytes that begin with the frame; and the state, 37
+// Runs checks 1 to 6 and 12 on stored frames and states and prints each answer, with the word that made the frame bad, or
+// 0. A record on standard input is a word, the frame's length; 424 bytes that begin with the frame; and the state, 39
 // words in the order of its fields, an f64 as low word and high word, an option as a flag and its words. What is
 // printed is held to the answers of an independent program (oracle/).
 mod stored_state;
@@ -10,8 +10,8 @@ use stored_state::state_of;
 
 // Runs one record, and says whether there was one.
 fn replay_one() -> bool {
-    let mut record = [0u8; 576];
-    if io::read_full(STDIN_FILENO, &mut record) < 576 {
+    let mut record = [0u8; 584];
+    if io::read_full(STDIN_FILENO, &mut record) < 584 {
         return false;
     }
     print_answers(&record)
@@ -24,7 +24,7 @@ fn print_answers(record: &[u8]) -> bool {
     if record.len() < end {
         return print(1, 0);
     }
-    let refusal = area::refusal_of(&record[4..end], state_of(record));
+    let refusal = area::refusal_before_7(&record[4..end], state_of(record));
     print(refusal, area::bad_word(&record[4..end]))
 }
 

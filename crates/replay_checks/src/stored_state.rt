@@ -22,6 +22,7 @@ pub fn state_of(record: &[u8]) -> State {
         scroll_stuck_to_end: flags_at(record, 135),
         interact_rect: rect_at(record, 137),
         bounced_this_momentum: flags_at(record, 142),
+        remembered_time: wide_at(record, 144, 145),
     }
 }
 

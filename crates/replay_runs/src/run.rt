@@ -1,15 +1,15 @@
 // A run: a word, the frame's length; 424 bytes that begin with the frame; the state's record; the increment, low word first,
 // and the limit; the word that the buffer for the frames used holds before the call. The line is "run", the refusal or 0,
 // and the words of that buffer and of the record after the call.
+use crate::input::fill;
 use crate::line::print;
 use crate::line::print_decimal;
 use crate::line::print_words;
-use libc::STDIN_FILENO;
 
 // Answers whether the record was whole and its line was written.
 pub fn replay_run(table: &[u8; 8200], is_by_table: bool) -> bool {
     let mut frame = [0u8; 428];
-    let mut state = [0u8; 148];
+    let mut state = [0u8; 156];
     let mut run = [0u8; 12];
     let mut used = [0u8; 4];
     let is_whole = fill(&mut frame) && fill(&mut state) && fill(&mut run) && fill(&mut used);
@@ -34,7 +34,7 @@ pub fn replay_run(table: &[u8; 8200], is_by_table: bool) -> bool {
 
 // Under the table or by T.
 fn settle(
-    state: &mut [u8; 148],
+    state: &mut [u8; 156],
     frame: &[u8],
     table: &[u8; 8200],
     is_by_table: bool,
@@ -47,16 +47,10 @@ fn settle(
     host::strakobud_settle(state, frame, run, used)
 }
 
-fn print_line(refusal: u32, used: &[u8; 4], state: &[u8; 148]) -> bool {
+fn print_line(refusal: u32, used: &[u8; 4], state: &[u8; 156]) -> bool {
     print(b"run");
     print_decimal(refusal as u64);
     print_words(used, 1);
-    print_words(state, 37);
+    print_words(state, 39);
     print(b"\n")
-}
-
-// Answers whether the input was long enough.
-fn fill(buffer: &mut [u8]) -> bool {
-    let n = buffer.len();
-    io::read_full(STDIN_FILENO, buffer) == n
 }

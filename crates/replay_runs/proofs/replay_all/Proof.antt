@@ -7,10 +7,10 @@ use Rattle.replay_runs.proofs.replay_all.Statement.{statement}
 use Rattle.replay_runs.proofs.replay_all.Tie as tie
 
 abbrev Inv-loop : tie.InvT-loop
-Inv-loop room₀ table₀ turns₀ more₀ room table turns more = length room ≡ length room₀
+Inv-loop room₀ table₀ kept₀ turns₀ more₀ room table kept turns more = length room ≡ length room₀
 
 abbrev μ-loop : tie.MeasureT-loop
-μ-loop room₀ table₀ turns₀ more₀ room table turns more = turns
+μ-loop room₀ table₀ kept₀ turns₀ more₀ room table kept turns more = turns
 
 loop-holds : tie.Need-loop-holds Inv-loop μ-loop
 loop-holds c = search needs
