@@ -1,4 +1,4 @@
-//! How often each branch of `begin`, `end`, exp, a table's load, a run and a bad word is met; without the feature `branches` nothing is counted.
+//! How often each branch of `begin`, `end`, exp, a table's load, a run, the clock and a bad word is met; without the feature `branches` nothing is counted.
 
 macro_rules! branches {
     ($($branch:ident $words:literal)*) => {
@@ -78,6 +78,7 @@ branches! {
     RunInside3 "run refused inside: 3"
     RunInside8 "run refused inside, after a frame: 8"
     RunFirst8 "run refused inside, at its first frame: 8"
+    RunFirst12 "run refused inside, at its first frame: 12"
     RunRefused1 "run refused up front: 1"
     RunRefused2 "run refused up front: 2"
     RunRefused3 "run refused up front: 3"
@@ -86,6 +87,7 @@ branches! {
     RunRefused6 "run refused up front, by a number of the state: 6"
     RunFlag6 "run refused up front, by a flag of the record: 6"
     RunRefused9 "run refused up front: 9"
+    RunBefore12 "run refused up front with 9, whose first frame is before the remembered time"
     OnlyLimitZero "run refused by a limit of 0 alone: 9"
     OnlyLimitAbove "run refused by a limit above 10,000 alone: 9"
     OnlyIncrementBelow "run refused by an increment below 0 alone: 9"
@@ -103,6 +105,19 @@ branches! {
     OnlyWord87 "run refused by word 87 alone: 9"
     OnlyWord91 "run refused by word 91 alone: 9"
     OnlyWord98 "run refused by word 98 alone: 9"
+    ClockBack "frame before the remembered time: 12"
+    ClockEqual "frame at the remembered time, above 0"
+    BackBefore7 "12 ahead of 7"
+    BackBefore8 "12 ahead of 8"
+    Before12By2 "2 ahead of 12"
+    Before12By3 "3 ahead of 12"
+    Before12By4 "4 ahead of 12"
+    Before12By5 "5 ahead of 12"
+    MinusZeroRemembered "a time of -0 is remembered"
+    Before12By1 "1 ahead of 12"
+    Before12By6 "6 ahead of 12"
+    RememberedNotFinite "remembered time that is not finite, nothing else: 6"
+    ResetAboveZero "reset of a remembered time above 0"
     Kept2 "bad word: 2 is kept first, and to the end"
     Kept3 "bad word: 3 is kept first, and to the end"
     Kept4 "bad word: 4 is kept first, and to the end"
@@ -132,6 +147,18 @@ pub const OF_RUNS: &[(Branch, &str)] = {
     up_to_last.split_at(Branch::RunRests as usize).1
 };
 
+/// Those of the clock, from the first to the last of them.
+pub const OF_CLOCK: &[(Branch, &str)] = {
+    let (up_to_last, _) = BRANCHES.split_at(Branch::ResetAboveZero as usize + 1);
+    up_to_last.split_at(Branch::ClockBack as usize).1
+};
+
+/// Those of them that whole frames without a reset cannot meet, or at their first times alone.
+pub const OF_RESETS: &[(Branch, &str)] = {
+    let before = Branch::MinusZeroRemembered as usize - Branch::ClockBack as usize;
+    OF_CLOCK.split_at(before).1
+};
+
 /// Those that a bad word alone can meet, to the end of the list.
 pub const OF_BAD_WORDS: &[(Branch, &str)] = BRANCHES.split_at(Branch::Kept2 as usize).1;
 
@@ -151,6 +178,18 @@ mod counts {
         });
     }
 
+    /// Counts the branch that is found, if any; those that are met on the way do not count.
+    pub fn met_by(find: impl FnOnce() -> Option<Branch>) {
+        let before = COUNTS.with(Clone::clone);
+        let found = find();
+        COUNTS.with(|counts| {
+            for (count, before) in counts.iter().zip(before) {
+                count.set(before.get());
+            }
+        });
+        found.into_iter().for_each(met);
+    }
+
     /// How often a branch was met in this thread.
     pub fn count_of(branch: Branch) -> u64 {
         COUNTS.with(|counts| counts[branch as usize].get())
@@ -158,11 +197,15 @@ mod counts {
 }
 
 #[cfg(feature = "branches")]
-pub use counts::{count_of, met};
+pub use counts::{count_of, met, met_by};
 
 #[cfg(not(feature = "branches"))]
 #[inline(always)]
 pub fn met(_: Branch) {}
+
+#[cfg(not(feature = "branches"))]
+#[inline(always)]
+pub fn met_by(_: impl FnOnce() -> Option<Branch>) {}
 
 /// The first branch where the test holds, else the second.
 #[inline(always)]

@@ -1,8 +1,8 @@
-//! The frame call: the checks around `begin` and `end`, and the lines that show its answer.
+//! The frame call of the Rust: the checks around `begin` and `end`, at any time. What the clock adds is in `clock`.
 
 use crate::frame::Fields;
 use crate::frame_begin::begin;
-use crate::frame_checks::{frame_refusal, parts};
+use crate::frame_checks::frame_refusal;
 use crate::frame_end::end;
 use crate::frame_state::State;
 use crate::records::write_output;
@@ -24,20 +24,20 @@ pub struct Output {
     pub repaint: bool,
 }
 
-/// One frame on a state by value.
+/// One frame on a state by value, which no clock is kept beside.
 pub fn frame_call(state: State, bytes: &[u8]) -> Output {
-    match frame_refusal(bytes) {
-        0 => call_on_checked_frame(state, bytes),
+    let refusal = match frame_refusal(bytes) {
+        0 => state.refusal(),
+        refusal => refusal,
+    };
+    match refusal {
+        0 => rust_call(state, bytes),
         refusal => Output::refused(refusal, state),
     }
 }
 
-/// The same on bytes that checks 1 to 5 let through.
-pub fn call_on_checked_frame(state: State, bytes: &[u8]) -> Output {
-    let refusal = state.refusal();
-    if refusal != 0 {
-        return Output::refused(refusal, state);
-    }
+/// The same on bytes that checks 1 to 5 let through and a state that check 6 does: the Rust itself, 7 and 8.
+pub fn rust_call(state: State, bytes: &[u8]) -> Output {
     let frame = Fields::of(bytes);
     let prepared = begin(state, &frame);
     let (inner_rect, viewport) = (prepared.inner_rect, prepared.viewport);
@@ -62,17 +62,8 @@ pub fn call_on_checked_frame(state: State, bytes: &[u8]) -> Output {
     }
 }
 
-/// Frames one after another, from a fresh state.
-pub fn run(bytes: &[u8]) -> impl Iterator<Item = Output> + '_ {
-    parts(bytes).scan(State::default(), |state, frame| {
-        let output = frame_call(*state, frame);
-        *state = output.state;
-        Some(output)
-    })
-}
-
 impl Output {
-    fn refused(refusal: u32, state: State) -> Output {
+    pub(crate) fn refused(refusal: u32, state: State) -> Output {
         let origin = Pos2 { x: 0.0, y: 0.0 };
         let nowhere = Rect::from_min_max(origin, origin);
         Output {
@@ -114,12 +105,6 @@ impl Output {
         );
         let [across, down] = self.state.scroll_stuck_to_end.map(u32::from);
         format!("{}{numbers} {across}{down}\n", self.refusal)
-    }
-
-    /// The refusal, the 37 words of the state, then the 25 words of the other outputs.
-    pub fn full_line(&self) -> String {
-        let state = in_hex(&self.state.record());
-        format!("{}{state}{}\n", self.refusal, in_hex(&self.record()))
     }
 
     /// The words of the record of the outputs other than refusal and state.

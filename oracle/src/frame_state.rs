@@ -1,8 +1,6 @@
 //! The state that a frame call is given: egui's fields, and check 6.
 
-use crate::records::write_state;
 use crate::rectangles::Rect;
-use crate::words::from_bytes;
 
 /// A scroll target under way, as egui's type of that name.
 #[derive(Clone, Copy, Debug, PartialEq)]
@@ -47,13 +45,6 @@ impl Default for State {
 }
 
 impl State {
-    /// The words of its record.
-    pub fn record(&self) -> [u32; 37] {
-        let mut bytes = [0; 148];
-        write_state(self, &mut bytes);
-        from_bytes(&bytes).try_into().expect("37 words")
-    }
-
     /// Check 6: "A number in the given state is not finite: 6", or 0; absent options hold no number.
     pub fn refusal(&self) -> u32 {
         let pairs = [self.offset, self.max_offset, self.vel];

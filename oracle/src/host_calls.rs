@@ -3,30 +3,34 @@
 //! Each takes and leaves the bytes that the library's function of the same name does; a table that was loaded is taken as its entries.
 
 use crate::axis_calls;
-use crate::frame_call::call_on_checked_frame;
+use crate::clock::{reset_record, Remembering, StateBytes};
 use crate::frame_checks::{self, frame_refusal};
-use crate::frame_state::State;
-use crate::records::{read_state, write_output, write_state, OutBytes, Reader, StateBytes, Writer};
+use crate::records::{write_output, OutBytes, Reader, Writer};
 use crate::scroll_physics::{scroll_bounds, WheelScroll};
 use crate::settling_run::{frames_until_rest, refusal_up_front};
 use crate::tables::{self, Table, TableBytes};
 
 pub fn fresh(state: &mut StateBytes) {
-    write_state(&State::default(), state);
+    Remembering::default().write(state);
+}
+
+/// Clears the remembered time and nothing else.
+pub fn reset(state: &mut StateBytes) {
+    reset_record(state);
 }
 
 /// 0 or the refusal; on a refusal neither buffer changes.
 pub fn frame(state: &mut StateBytes, frame: &[u8], out: &mut OutBytes) -> u32 {
-    let refusal = frame_refusal(frame);
-    if refusal != 0 {
-        return refusal;
-    }
-    let Some(given) = read_state(state) else {
-        return 6;
+    let Some(mut kept) = Remembering::read(state) else {
+        // A damaged flag is 6, behind the frame's own numbers.
+        return match frame_refusal(frame) {
+            0 => 6,
+            refusal => refusal,
+        };
     };
-    let output = call_on_checked_frame(given, frame);
+    let output = kept.frame(frame);
     if output.refusal == 0 {
-        write_state(&output.state, state);
+        kept.write(state);
         write_output(&output, out);
     }
     output.refusal
@@ -57,7 +61,7 @@ pub type UsedBytes = [u8; 4];
 pub fn settle(state: &mut StateBytes, frame: &[u8], run: &RunBytes, used: &mut UsedBytes) -> u32 {
     let mut reader = Reader::of(run);
     let (increment, limit) = (reader.double(), reader.word());
-    let given = read_state(state);
+    let given = Remembering::read(state);
     let refusal = refusal_up_front(given.as_ref(), frame, increment, limit);
     let (0, Some(given)) = (refusal, given) else {
         return refusal;
@@ -66,7 +70,7 @@ pub fn settle(state: &mut StateBytes, frame: &[u8], run: &RunBytes, used: &mut U
     *used = settled.used.to_le_bytes();
     // Where no frame was used the record is the one given, with whatever its absent options hold.
     if settled.used > 0 {
-        write_state(&settled.state, state);
+        settled.state.write(state);
     }
     settled.refusal
 }
@@ -100,12 +104,12 @@ pub fn table_t(table: &mut TableBytes) {
 
 /// The shown offset.
 pub fn offset(state: &StateBytes, out: &mut [u8; 8]) -> u32 {
-    let Some(state) = read_state(state) else {
+    let Some(Remembering { egui, .. }) = Remembering::read(state) else {
         return 6;
     };
     let mut writer = Writer::on(out);
     for d in 0..2 {
-        writer.number(scroll_bounds(state.max_offset[d]).clamp(state.offset[d]));
+        writer.number(scroll_bounds(egui.max_offset[d]).clamp(egui.offset[d]));
     }
     0
 }

@@ -4,6 +4,7 @@ pub mod answers;
 pub mod axis_calls;
 pub mod axis_vectors;
 pub mod branches;
+pub mod clock;
 pub mod command_line;
 pub mod frame;
 pub mod frame_begin;

@@ -1,4 +1,4 @@
-//! Records of 32-bit little-endian words: a state, what a frame puts out besides it, and an axis.
+//! Records of 32-bit little-endian words: egui's state, what a frame puts out besides it, and an axis.
 
 use crate::frame_call::Output;
 use crate::frame_state::{ScrollingToTarget, State};
@@ -6,8 +6,8 @@ use crate::numbers::Rangef;
 use crate::rectangles::{Pos2, Rect};
 use crate::scroll_physics::{AxisPhysics, KineticScrollStyle, MouseWheelSource};
 
-/// A state's record.
-pub type StateBytes = [u8; 148];
+/// How many bytes of a state's record egui's state takes: its first 37 words.
+pub const RUST_BYTES: usize = 148;
 
 /// The words of a state's record that are flags, numbered from 0.
 pub const FLAGS: [usize; 15] = [4, 10, 16, 17, 18, 19, 20, 21, 24, 26, 28, 29, 30, 35, 36];
@@ -19,7 +19,7 @@ pub const OPTIONS: [(usize, usize); 5] = [(4, 5), (10, 5), (24, 1), (26, 1), (30
 pub type OutBytes = [u8; 100];
 
 /// Nothing where a flag is neither 0 nor 1; the words of an absent option are ignored.
-pub fn read_state(bytes: &StateBytes) -> Option<State> {
+pub fn read_state(bytes: &[u8; RUST_BYTES]) -> Option<State> {
     let mut reader = Reader::of(bytes);
     Some(State {
         offset: reader.numbers(),
@@ -36,7 +36,7 @@ pub fn read_state(bytes: &StateBytes) -> Option<State> {
     })
 }
 
-pub fn write_state(state: &State, bytes: &mut StateBytes) {
+pub fn write_state(state: &State, bytes: &mut [u8; RUST_BYTES]) {
     let mut writer = Writer::on(bytes);
     writer.numbers(state.offset);
     writer.numbers(state.max_offset);

@@ -1,9 +1,8 @@
 //! Document 02's K1, "Frames until the list rests": one frame, again and again at later times.
 
 use crate::branches::{met, met_if, Branch};
-use crate::frame_call::frame_call;
+use crate::clock::Remembering;
 use crate::frame_checks::{float, frame_refusal, time, word};
-use crate::frame_state::State;
 
 /// Document 02: "a limit of 0 or above 10,000".
 pub const MOST_FRAMES: u32 = 10_000;
@@ -13,11 +12,11 @@ pub const MOST_FRAMES: u32 = 10_000;
 pub struct Settled {
     pub refusal: u32,
     pub used: u32,
-    pub state: State,
+    pub state: Remembering,
 }
 
 /// Document 02: "A run takes a state, a frame, an f64 time increment and a limit of frames".
-pub fn settle(state: State, bytes: &[u8], increment: f64, limit: u32) -> Settled {
+pub fn settle(state: Remembering, bytes: &[u8], increment: f64, limit: u32) -> Settled {
     match refusal_up_front(Some(&state), bytes, increment, limit) {
         0 => frames_until_rest(state, bytes, increment, limit),
         refusal => Settled {
@@ -29,7 +28,12 @@ pub fn settle(state: State, bytes: &[u8], increment: f64, limit: u32) -> Settled
 }
 
 /// The number by which no frame is run, or 0; no state stands for a record with a flag that is neither 0 nor 1.
-pub fn refusal_up_front(state: Option<&State>, bytes: &[u8], increment: f64, limit: u32) -> u32 {
+pub fn refusal_up_front(
+    state: Option<&Remembering>,
+    bytes: &[u8],
+    increment: f64,
+    limit: u32,
+) -> u32 {
     let of_frame = frame_refusal(bytes);
     if of_frame != 0 {
         met(UP_FRONT[of_frame as usize - 1]);
@@ -48,6 +52,7 @@ pub fn refusal_up_front(state: Option<&State>, bytes: &[u8], increment: f64, lim
         return 0;
     }
     met(Branch::RunRefused9);
+    met_if(state.is_ahead_of(bytes), Branch::RunBefore12);
     // A ground is tried only where no other would do in its place.
     if let [only] = grounds[..] {
         met(only);
@@ -103,7 +108,7 @@ fn grounds_of_9(bytes: &[u8], increment: f64, limit: u32) -> Vec<Branch> {
 }
 
 /// Document 02: "ends at the first frame that wants no repaint, or at the limit"; what is handed over passed all up front.
-pub fn frames_until_rest(state: State, bytes: &[u8], increment: f64, limit: u32) -> Settled {
+pub fn frames_until_rest(state: Remembering, bytes: &[u8], increment: f64, limit: u32) -> Settled {
     let mut frame = bytes.to_vec();
     let mut settled = Settled {
         refusal: 0,
@@ -111,14 +116,13 @@ pub fn frames_until_rest(state: State, bytes: &[u8], increment: f64, limit: u32)
         state,
     };
     while settled.used < limit {
-        let output = frame_call(settled.state, &frame);
+        let output = settled.state.frame(&frame);
         if output.refusal != 0 {
             settled.refusal = output.refusal;
             met_inside(&settled);
             return settled;
         }
         settled.used += 1;
-        settled.state = output.state;
         if !output.repaint {
             met(Branch::RunRests);
             met_if(settled.used == limit, Branch::RunRestsAtLimit);
@@ -137,10 +141,12 @@ fn advance(frame: &mut [u8], increment: f64) {
     frame[204..212].copy_from_slice(&later.to_le_bytes());
 }
 
-/// No other number comes out: time alone changes from frame to frame, a state after a frame is finite, and no bar is pressed.
+/// No other number comes out: time alone changes from frame to frame and does not fall, a state after a frame is finite, and no bar is
+/// pressed.
 fn met_inside(settled: &Settled) {
     met_if(settled.refusal == 3, Branch::RunInside3);
     let is_first = settled.used == 0;
+    met_if(settled.refusal == 12 && is_first, Branch::RunFirst12);
     met_if(settled.refusal == 8 && is_first, Branch::RunFirst8);
     met_if(settled.refusal == 8 && !is_first, Branch::RunInside8);
 }

@@ -1,6 +1,7 @@
 //! The frame call: document 01's readings, refusals, and the shape of its lines.
 
-use oracle::frame_call::{frame_call, run, Output};
+use oracle::clock::{run, Remembering};
+use oracle::frame_call::{frame_call, Output};
 use oracle::frame_state::State;
 use oracle::frame_vectors::{bare, example, full, Frame};
 use oracle::rectangles::{Pos2, Rect};
@@ -124,25 +125,28 @@ fn the_outputs_of_the_example() {
 }
 
 #[test]
-fn a_full_line_has_63_parts() {
-    let output = call(State::default(), with_bar(0.0, 100.0, 12.0));
-    let line = output.full_line();
+fn a_full_line_has_65_parts() {
+    let mut left = Remembering::default();
+    let frame = with_bar(0.0, 100.0, 12.0).with_time(2.5f64.to_bits());
+    let output = left.frame(&frame.bytes());
+    let line = left.full_line(&output);
     let parts: Vec<&str> = line.trim_end().split(' ').collect();
-    assert_eq!((parts.len(), parts[0]), (63, "0"));
+    assert_eq!((parts.len(), parts[0]), (65, "0"));
     assert!(parts[1..].iter().all(|part| part.len() == 8));
     let words: Vec<u32> = parts[1..]
         .iter()
         .map(|part| u32::from_str_radix(part, 16).expect("a word"))
         .collect();
-    assert_eq!(words[..37], output.state.record());
+    assert_eq!(words[..39], left.record());
+    assert_eq!((words[37], words[38]), (0, 0x4004_0000));
     let numbers = [180.0, 400.0, 0.0, 0.0, 200.0, 100.0, 0.0, 0.0, 200.0, 100.0];
-    assert_eq!(words[37..47], numbers.map(f32::to_bits));
-    assert_eq!(words[47..52], [0; 5]);
+    assert_eq!(words[39..49], numbers.map(f32::to_bits));
+    assert_eq!(words[49..54], [0; 5]);
     // The bar stands at the edge of the shrunk rectangle.
-    assert_eq!(words[52], 1);
+    assert_eq!(words[54], 1);
     let handle = [170.0f32, 0.0, 180.0, 25.0].map(f32::to_bits);
-    assert_eq!(words[53..57], handle);
-    assert_eq!(words[57..], [0; 5]);
+    assert_eq!(words[55..59], handle);
+    assert_eq!(words[59..], [0; 5]);
 }
 
 #[test]
@@ -152,7 +156,9 @@ fn frames_run_one_after_another_and_a_short_last_part_is_1() {
     let bytes = [example(), bad, grown, grown].map(|frame| frame.bytes());
     let mut bytes = bytes.concat();
     bytes.truncate(3 * 416 + 1);
-    let lines: String = run(&bytes).map(|output| output.listing_line()).collect();
+    let lines: String = run(&bytes)
+        .map(|(_, output)| output.listing_line())
+        .collect();
     let expected = [
         "0 00000000 43960000 00000000 00000000 11",
         "2 00000000 43960000 00000000 00000000 11",

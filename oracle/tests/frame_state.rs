@@ -1,5 +1,6 @@
 //! The state's record, and check 6.
 
+use oracle::clock::Remembering;
 use oracle::frame_state::{ScrollingToTarget, State};
 use oracle::rectangles::{Pos2, Rect};
 
@@ -40,21 +41,22 @@ fn state() -> State {
 fn the_record_has_the_fields_in_order() {
     let expected = [
         1, 2, 3, 4, 1, 6, 7, 8, 9, 10, 1, 12, 13, 14, 15, 16, 0, 1, 0, 1, 1, 0, 23, 24, 1, 26, 1,
-        28, 0, 1, 1, 32, 33, 34, 35, 1, 0,
+        28, 0, 1, 1, 32, 33, 34, 35, 1, 0, 38, 39,
     ];
-    assert_eq!(state().record(), expected);
+    let (egui, time) = (state(), f64::from_bits(39 << 32 | 38));
+    assert_eq!(Remembering { egui, time }.record(), expected);
 }
 
 #[test]
 fn absent_options_have_zeros() {
-    let mut fresh = [0; 37];
+    let mut fresh = [0; 39];
     fresh[28..30].fill(1);
-    assert_eq!(State::default().record(), fresh);
+    assert_eq!(Remembering::default().record(), fresh);
     let mut state = state();
     state.offset_target[0] = None;
     state.scroll_start_offset_from_top_left[1] = None;
     state.interact_rect = None;
-    let record = state.record();
+    let record = Remembering::from(state).record();
     assert_eq!(record[4..11], [0, 0, 0, 0, 0, 0, 1]);
     assert_eq!(record[24..28], [1, 26, 0, 0]);
     assert_eq!(record[30..35], [0; 5]);

@@ -3,16 +3,16 @@
 mod common;
 
 use common::assert_no_record_repeats;
+use oracle::clock::Remembering;
 use oracle::frame_checks::bad_word;
-use oracle::frame_state::State;
 use oracle::frame_vectors::{bare, fixed_list, full, random_list, Call};
 use oracle::words::from_bytes;
 
 #[test]
-fn every_record_has_576_bytes_and_begins_with_the_length() {
+fn every_record_has_584_bytes_and_begins_with_the_length() {
     for call in fixed_list().iter().chain(&random_list(1, 1000)) {
         let record = call.input_record();
-        assert_eq!(record.len(), 576);
+        assert_eq!(record.len(), 584);
         let length = from_bytes(&record)[0] as usize;
         assert!(length <= 424);
         assert!(record[4 + length..428].iter().all(|byte| *byte == 0));
@@ -27,7 +27,7 @@ fn the_first_record_is_the_bare_frame_with_a_fresh_state() {
     assert_eq!(words[0], 416);
     assert_eq!(words[1..105], from_bytes(&bare().bytes()));
     assert_eq!(words[105..107], [0, 0]);
-    assert_eq!(words[107..], State::default().record());
+    assert_eq!(words[107..], Remembering::default().record());
 }
 
 /// A bad word is there where the refusal is one of 2 to 5, and only there.
@@ -54,14 +54,14 @@ fn every_word_but_52_is_a_bad_one() {
 #[test]
 fn the_fixed_list_has_its_size_and_repeats_no_record() {
     let list = fixed_list();
-    assert!((1400..=1600).contains(&list.len()), "{} calls", list.len());
+    assert!((1600..=1800).contains(&list.len()), "{} calls", list.len());
     assert_no_record_repeats(list.iter().map(Call::input_record).collect());
 }
 
 #[test]
 fn every_refusal_is_met() {
     for (list, least) in [(fixed_list(), 40), (random_list(1, 30_000), 500)] {
-        for refusal in 0..=6 {
+        for refusal in [0, 1, 2, 3, 4, 5, 6, 12] {
             let met = list.iter().filter(|call| call.refusal() == refusal);
             assert!(met.count() >= least, "{refusal}");
         }

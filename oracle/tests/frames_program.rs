@@ -4,7 +4,7 @@ use std::fs::{self, File};
 use std::path::{Path, PathBuf};
 use std::process::{Command, Output};
 
-use oracle::frame_call::run;
+use oracle::clock::run;
 use oracle::scenes::fling_list;
 use oracle::tables::{bytes_of, good, kept, refused, t_bytes, under, Good, Refused};
 
@@ -27,7 +27,9 @@ fn ran(table: &Path, frames: &Path) -> Output {
 }
 
 fn listing(frames: &[u8]) -> String {
-    run(frames).map(|output| output.listing_line()).collect()
+    run(frames)
+        .map(|(_, output)| output.listing_line())
+        .collect()
 }
 
 #[test]

@@ -1,10 +1,9 @@
 //! The calls on records.
 
-use oracle::frame_state::State;
+use oracle::clock::Remembering;
 use oracle::frame_vectors::{bare, random_state};
 use oracle::host_calls::{bad_word, drag, frame, fresh, offset, step, wheel};
 use oracle::random::Random;
-use oracle::records::{read_state, write_state};
 use oracle::words::in_bytes;
 
 const UNWRITTEN: u8 = 0xaa;
@@ -13,24 +12,24 @@ const UNWRITTEN: u8 = 0xaa;
 fn a_written_state_is_read_again() {
     let mut random = Random::new(1);
     for _ in 0..1000 {
-        let state = random_state(&mut random);
+        let state = random_state(&mut random, &bare().bytes());
         if state.refusal() != 0 {
             continue; // a not-a-number is not equal to itself
         }
-        let mut bytes = [UNWRITTEN; 148];
-        write_state(&state, &mut bytes);
-        assert_eq!(read_state(&bytes), Some(state));
+        let mut bytes = [UNWRITTEN; 156];
+        state.write(&mut bytes);
+        assert_eq!(Remembering::read(&bytes), Some(state));
     }
-    let mut bytes = [UNWRITTEN; 148];
+    let mut bytes = [UNWRITTEN; 156];
     fresh(&mut bytes);
-    assert_eq!(read_state(&bytes), Some(State::default()));
+    assert_eq!(Remembering::read(&bytes), Some(Remembering::default()));
 }
 
 /// A damaged flag is 6, and a bad frame goes before it; neither buffer changes.
 #[test]
 fn a_damaged_state_is_6_in_its_place() {
     for flag in [4, 10, 16, 17, 18, 19, 20, 21, 24, 26, 28, 29, 30, 35, 36] {
-        let mut state = [0; 148];
+        let mut state = [0; 156];
         fresh(&mut state);
         state[4 * flag] = 2;
         let (given, mut out, mut shown) = (state, [UNWRITTEN; 100], [UNWRITTEN; 8]);

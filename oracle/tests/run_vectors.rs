@@ -4,8 +4,9 @@ mod common;
 
 use common::assert_no_record_repeats;
 use oracle::answers::Answer;
-use oracle::host_calls::table_load;
-use oracle::records::{read_state, write_state, StateBytes, FLAGS};
+use oracle::clock::{Remembering, StateBytes};
+use oracle::host_calls::{self, table_load};
+use oracle::records::FLAGS;
 use oracle::run_vectors::{answers, fixed_list, fixed_runs, random_list, Left, Record, Run};
 use oracle::tables::{kept, unloaded, Table, LENGTH};
 use oracle::words::{from_bytes, in_bytes, in_hex};
@@ -20,8 +21,8 @@ fn lists() -> [(Vec<Record>, Vec<Answer>); 3] {
 
 fn run_of(record: &Record) -> Option<&Run> {
     match record {
-        Record::Load(_) => None,
         Record::Run(run) | Record::RunBy(run) => Some(run),
+        _ => None,
     }
 }
 
@@ -55,20 +56,32 @@ fn every_record_begins_with_its_kind_and_has_its_length() {
                 }
                 Record::Run(run) => assert_eq!((kind, holds(run, &bytes)), (2, true)),
                 Record::RunBy(run) => assert_eq!((kind, holds(run, &bytes)), (3, true)),
+                Record::Fresh => assert_eq!((kind, bytes.len()), (4, 4)),
+                Record::Frame(frame) => {
+                    let stored = (kind, bytes.len(), holds_frame(frame, &bytes));
+                    assert_eq!(stored, (5, 432, true));
+                }
+                Record::Reset => assert_eq!((kind, bytes.len()), (6, 4)),
             }
         }
     }
 }
 
+/// Whether the record holds the frame behind its kind: the length, the bytes, and zeros up to 424.
+fn holds_frame(frame: &[u8], bytes: &[u8]) -> bool {
+    let length = frame.len();
+    from_bytes(&bytes[4..8])[0] as usize == length
+        && bytes[8..8 + length] == *frame
+        && bytes[8 + length..432].iter().all(|byte| *byte == 0)
+}
+
 /// Whether the record holds the run, each part at its place.
 fn holds(run: &Run, bytes: &[u8]) -> bool {
-    let length = run.frame.len();
-    bytes.len() == 596
-        && from_bytes(&bytes[4..8])[0] as usize == length
-        && bytes[8..8 + length] == run.frame
-        && bytes[432..580] == run.state
-        && bytes[580..592] == run.run
-        && bytes[592..] == run.used
+    bytes.len() == 604
+        && holds_frame(&run.frame, bytes)
+        && bytes[432..588] == run.state
+        && bytes[588..600] == run.run
+        && bytes[600..] == run.used
 }
 
 /// The refusal of a run, and the line that shows it and both buffers.
@@ -78,10 +91,31 @@ fn shown(left: &Left) -> (u32, String) {
     (left.refusal, line)
 }
 
+/// The same of a fresh state, a frame or a reset on the record that is kept.
+fn shown_on(kept: &mut StateBytes, record: &Record) -> (u32, String) {
+    let (refusal, words) = match record {
+        Record::Frame(frame) => {
+            let refusal = host_calls::frame(kept, frame, &mut [0; 100]);
+            (refusal, format!("frame {refusal}"))
+        }
+        Record::Fresh => {
+            host_calls::fresh(kept);
+            (0, "fresh".to_owned())
+        }
+        _ => {
+            host_calls::reset(kept);
+            (0, "reset".to_owned())
+        }
+    };
+    let line = format!("{words}{}\n", in_hex(&from_bytes(kept)));
+    (refusal, line)
+}
+
 #[test]
 fn every_line_shows_the_refusal_and_both_buffers() {
     for (list, answers) in lists() {
         let mut table = [0; LENGTH];
+        let mut kept = [0; 156];
         for (record, answer) in list.iter().zip(&answers) {
             let (refusal, line) = match record {
                 Record::Load(bytes) => {
@@ -90,6 +124,7 @@ fn every_line_shows_the_refusal_and_both_buffers() {
                 }
                 Record::Run(run) => shown(&run.left(None)),
                 Record::RunBy(run) => shown(&run.left(Some(taken(&table)))),
+                other => shown_on(&mut kept, other),
             };
             assert_eq!((answer.refusal, &answer.line), (refusal, &line));
         }
@@ -108,7 +143,7 @@ fn a_buffer_changes_only_where_it_may() {
                 assert!(matches!(answer.refusal, 1..=6 | 9) && words[1..] == given);
                 met[0] += 1;
             } else if used == 0 {
-                assert!(answer.refusal == 8 && words[1..] == given);
+                assert!(matches!(answer.refusal, 8 | 12) && words[1..] == given);
                 met[1] += 1;
             } else {
                 assert!(matches!(answer.refusal, 0 | 3 | 8) && used <= run.limit());
@@ -121,8 +156,8 @@ fn a_buffer_changes_only_where_it_may() {
 
 /// What a state's record would be if its absent options were zeros; nothing where a flag is damaged.
 fn cleared(bytes: &StateBytes) -> Option<StateBytes> {
-    let mut cleared = [0; 148];
-    write_state(&read_state(bytes)?, &mut cleared);
+    let mut cleared = [0; 156];
+    Remembering::read(bytes)?.write(&mut cleared);
     Some(cleared)
 }
 
@@ -134,7 +169,7 @@ fn absent_options_are_met_on_both_sides() {
         for (run, answer) in runs(&list, &answers).filter(|(_, answer)| answer.refusal != 6) {
             let is_littered = cleared(&run.state).is_some_and(|cleared| cleared != run.state);
             let words = words_of(answer);
-            let after: StateBytes = in_bytes(&words[1..]).try_into().expect("37 words");
+            let after: StateBytes = in_bytes(&words[1..]).try_into().expect("39 words");
             let is_used = words[0] < 1 << 31 && words[0] > 0;
             kept += u32::from(is_littered && !is_used && after == run.state);
             zeroed += u32::from(is_littered && is_used && cleared(&after) == Some(after));
@@ -167,7 +202,7 @@ fn damaged_flags_are_6_and_come_behind_1_to_5() {
 fn the_fixed_list_has_its_size_and_repeats_no_run() {
     let list = fixed_list();
     let bytes: usize = list.iter().map(|record| record.input_record().len()).sum();
-    assert!(bytes < 400_000, "{bytes}");
+    assert!(bytes < 600_000, "{bytes}");
     let runs = fixed_runs().into_iter().map(Record::Run);
     assert_no_record_repeats(runs.map(|run| run.input_record()).collect());
 }
@@ -175,7 +210,7 @@ fn the_fixed_list_has_its_size_and_repeats_no_run() {
 #[test]
 fn every_refusal_of_a_run_is_met() {
     for (list, answers) in lists() {
-        for refusal in [0, 1, 2, 3, 4, 5, 6, 8, 9] {
+        for refusal in [0, 1, 2, 3, 4, 5, 6, 8, 9, 12] {
             let met = runs(&list, &answers).filter(|(_, answer)| answer.refusal == refusal);
             let met = met.count();
             assert!(met >= 5, "{refusal}: {met}");

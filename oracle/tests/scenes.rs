@@ -1,8 +1,9 @@
 //! What the scenes meet.
 
+use oracle::clock::{run, Remembering};
 use oracle::frame::Fields;
 use oracle::frame_begin::{begin, dt};
-use oracle::frame_call::{run, Output};
+use oracle::frame_call::Output;
 use oracle::frame_state::State;
 use oracle::numbers::flag_as_number;
 use oracle::scenes::scene_list;
@@ -17,7 +18,7 @@ fn word(frame: &[u8], number: usize) -> u32 {
 /// The frames of a list with their answers.
 fn played(seed: u64, count: usize) -> Vec<(Vec<u8>, Output)> {
     let list = scene_list(seed, count);
-    let outputs: Vec<Output> = run(&list.concat()).collect();
+    let outputs: Vec<Output> = run(&list.concat()).map(|(_, output)| output).collect();
     assert_eq!(outputs.len(), count);
     list.into_iter().zip(outputs).collect()
 }
@@ -49,7 +50,7 @@ fn every_refusal_but_6_is_met() {
         outputs.filter(|given| *given == refusal).count()
     };
     assert_eq!((met(1), met(6)), (1, 0));
-    for refusal in [2, 3, 4, 5, 7, 8] {
+    for refusal in [2, 3, 4, 5, 7, 8, 12] {
         assert!(met(refusal) >= 20, "{refusal}: {}", met(refusal));
     }
     assert!(met(0) >= 18_000);
@@ -108,15 +109,15 @@ fn the_states_are_of_every_kind() {
 
 #[test]
 fn what_is_accepted_is_finite_and_what_is_refused_changes_nothing() {
-    let mut state = State::default();
-    for (_, output) in played(7, 20_000) {
+    let mut before = Remembering::default();
+    for (left, output) in run(&scene_list(7, 20_000).concat()) {
         if output.refusal == 0 {
-            assert_eq!(output.state.refusal(), 0);
-            state = output.state;
+            assert_eq!((left.refusal(), left.egui), (0, output.state));
         } else {
-            assert_eq!(output.state.record(), state.record());
+            assert_eq!(left.record(), before.record());
             assert_eq!(output.record(), [0; 25]);
         }
+        before = left;
     }
 }
 
@@ -176,12 +177,12 @@ fn coasts_meet_every_number_of_halvings_and_springs_need_none() {
     }
 }
 
-/// That each branch but those of tables, runs and bad words is met so often in a list of scenes; a frame counts when it is made and when it is run.
+/// That each branch but those of tables, runs, resets and bad words is met so often in a list of scenes; a frame counts when it is made and when it is run.
 #[cfg(feature = "branches")]
 fn assert_every_branch_is_met(seed: u64, count: usize, least: u64) {
-    use oracle::branches::{count_of, BRANCHES, OF_BAD_WORDS, OF_RUNS, OF_TABLES};
+    use oracle::branches::{count_of, BRANCHES, OF_BAD_WORDS, OF_RESETS, OF_RUNS, OF_TABLES};
     played(seed, count);
-    let others = [OF_RUNS, OF_BAD_WORDS].concat();
+    let others = [OF_RUNS, OF_RESETS, OF_BAD_WORDS].concat();
     let is_of_frames = |named: &&(_, _)| !OF_TABLES.contains(&named.0) && !others.contains(named);
     for (branch, words) in BRANCHES.iter().filter(is_of_frames) {
         let met = count_of(*branch) / 2;
@@ -199,5 +200,5 @@ fn every_branch_is_met() {
 #[cfg(feature = "branches")]
 #[test]
 fn the_stored_frames_meet_every_branch() {
-    assert_every_branch_is_met(2030, 640, 1);
+    assert_every_branch_is_met(2080, 640, 1);
 }

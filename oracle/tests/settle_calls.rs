@@ -4,6 +4,7 @@ use oracle::frame_vectors::{bare, example};
 use oracle::host_calls::{fresh, settle};
 use oracle::numbers::TABLE;
 use oracle::records::FLAGS;
+use oracle::run_vectors::lists::{list, moving, paced};
 use oracle::run_vectors::{fixed_calls, scene_calls, Call, Run, UNWRITTEN};
 use oracle::settling_run::refusal_up_front;
 use oracle::words::in_bytes;
@@ -46,7 +47,7 @@ fn both_buffers_hold_what_the_frames_used_led_to() {
 #[test]
 fn a_damaged_flag_is_6_in_its_place() {
     for flag in FLAGS {
-        let mut state = [0; 148];
+        let mut state = [0; 156];
         fresh(&mut state);
         state[4 * flag + 3] = 1;
         let (given, mut used) = (state, UNWRITTEN);
@@ -66,7 +67,7 @@ fn a_damaged_flag_is_6_in_its_place() {
 #[test]
 fn a_run_is_read_word_by_word() {
     let increment = f64::from_bits(0x3fe0_0000_0000_0001);
-    let mut call = fixed_calls().pop().expect("a run");
+    let mut call = paced(moving(150.0, 90.0), list(), 1);
     (call.increment, call.limit) = (increment, 0x0102_0304);
     let Run {
         mut state,

@@ -1,12 +1,16 @@
 //! The settling run: what it refuses before any frame, which frames it takes, and how it ends.
 
-use oracle::frame_call::frame_call;
+use oracle::clock::Remembering;
 use oracle::frame_state::State;
 use oracle::frame_vectors::Frame;
 use oracle::run_vectors::lists::{list, moving, SCREEN};
 use oracle::run_vectors::{arbitrary_calls, fixed_calls, scene_calls, Call};
-use oracle::settling_run::{refusal_up_front, settle, Settled};
+use oracle::settling_run::{self, refusal_up_front, Settled};
 use oracle::tables::{good, kept, under};
+
+fn settle(state: State, bytes: &[u8], increment: f64, limit: u32) -> Settled {
+    settling_run::settle(state.into(), bytes, increment, limit)
+}
 
 fn refusal(frame: Frame, increment: f64, limit: u32) -> u32 {
     settle(moving(150.0, 90.0), &frame.bytes(), increment, limit).refusal
@@ -115,9 +119,9 @@ fn a_run_is_its_frames_one_after_another() {
         for _ in 0..answer.used {
             assert!(wants_repaint);
             frame[204..212].copy_from_slice(&time.to_bits().to_le_bytes());
-            let output = frame_call(state, &frame);
+            let output = state.frame(&frame);
             assert_eq!(output.refusal, 0);
-            (state, wants_repaint) = (output.state, output.repaint);
+            wants_repaint = output.repaint;
             time += call.increment;
         }
         assert_eq!(answer.state.record(), state.record());
@@ -126,7 +130,7 @@ fn a_run_is_its_frames_one_after_another() {
             0 => assert!(!wants_repaint || answer.used == call.limit),
             refusal => {
                 assert!(wants_repaint && answer.used < call.limit);
-                assert_eq!(frame_call(state, &frame).refusal, refusal);
+                assert_eq!(state.frame(&frame).refusal, refusal);
             }
         }
     }
@@ -146,10 +150,14 @@ fn what_is_refused_up_front_has_used_nothing() {
 }
 
 #[test]
-fn inside_only_3_and_8_are_met() {
+fn inside_only_3_and_8_are_met_and_12_at_the_first_frame() {
     for call in calls().iter().filter(|call| !is_refused_up_front(call)) {
         let Settled { refusal, used, .. } = call.answer();
-        assert!([0, 8].contains(&refusal) || refusal == 3 && used > 0);
+        match refusal {
+            3 => assert!(used > 0),
+            12 => assert_eq!(used, 0),
+            _ => assert!([0, 8].contains(&refusal)),
+        }
     }
 }
 
@@ -171,10 +179,10 @@ fn a_fling_takes_as_long_as_it_decays() {
     let seconds = 0.325 * (90.0f64 * 0.325 / 0.1).ln();
     let frames = (seconds * 60.0).ceil() as u32 + 1;
     assert_eq!(
-        (answer.refusal, answer.used, answer.state.vel[1]),
+        (answer.refusal, answer.used, answer.state.egui.vel[1]),
         (0, frames, 0.0)
     );
-    assert!((answer.state.offset[1] - (150.0 + 90.0 * 0.325)).abs() < 0.2);
+    assert!((answer.state.egui.offset[1] - (150.0 + 90.0 * 0.325)).abs() < 0.2);
 }
 
 /// From 7 steps of 2^-21 before 2^32: a sum is rounded to a step, and at 2^32 itself to two, each time anew.
@@ -215,13 +223,12 @@ fn a_refusal_inside_leaves_the_frames_before_it() {
     let band = list().with(39, 1).with_number(51, 0.1).with_number(37, 1.0);
     let first = settle(moving(3e38, 3e38), &band.bytes(), SCREEN, 60);
     assert_eq!((first.refusal, first.used), (8, 0));
-    assert_eq!(first.state, moving(3e38, 3e38));
+    assert_eq!(first.state, moving(3e38, 3e38).into());
     let later = settle(moving(150.0, 3.4e38), &band.bytes(), SCREEN, 60);
     assert_eq!((later.refusal, later.used), (8, 1));
-    assert_eq!(
-        later.state,
-        frame_call(moving(150.0, 3.4e38), &band.bytes()).state
-    );
+    let mut expected = Remembering::from(moving(150.0, 3.4e38));
+    expected.frame(&band.bytes());
+    assert_eq!(later.state, expected);
 }
 
 /// A table that falls to 0 stops a fling in its second frame; one that hardly falls lets it run.

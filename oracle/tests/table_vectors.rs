@@ -1,11 +1,12 @@
 //! The shape of the records of tables and calls, and what they meet.
 
 use oracle::answers::Answer;
+use oracle::clock::Remembering;
 use oracle::frame_call::frame_call;
 use oracle::frame_state::State;
-use oracle::frame_vectors::random_state;
+use oracle::frame_vectors::{bare, random_state};
 use oracle::random::Random;
-use oracle::table_vectors::{answers, fixed_list, random_list, reset_frames, Record};
+use oracle::table_vectors::{answers, clearing_frames, fixed_list, random_list, Record};
 use oracle::tables::{refused, t_bytes};
 use oracle::words::from_bytes;
 
@@ -49,7 +50,10 @@ fn every_line_begins_with_its_kind_and_shows_the_whole_answer() {
                 }
                 Record::Exp(_) => assert_eq!(lengths, [8, 8]),
                 Record::Step(_) => assert_eq!(lengths[10..], [1, 1, 8, 8, 1]),
-                Record::Frame(_) => assert_eq!(lengths, [1, 8, 8, 8, 8, 2]),
+                Record::Frame(_) => {
+                    assert_eq!(words[1], answer.refusal.to_string());
+                    assert_eq!(lengths[1..], [8, 8, 8, 8, 2]);
+                }
             }
         }
     }
@@ -85,20 +89,20 @@ fn every_refusal_of_a_load_is_met() {
 }
 
 #[test]
-fn the_reset_frames_lead_every_state_to_one() {
-    let reset = |state: State| {
-        reset_frames().iter().fold(state, |state, frame| {
+fn the_clearing_frames_lead_every_state_to_one() {
+    let cleared = |state: State| {
+        clearing_frames().iter().fold(state, |state, frame| {
             let output = frame_call(state, frame);
             assert_eq!(output.refusal, 0);
             output.state
         })
     };
-    let expected = reset(State::default()).record();
+    let expected = Remembering::from(cleared(State::default())).record();
     let random = &mut Random::new(1);
     for _ in 0..1000 {
-        let state = random_state(random);
+        let state = random_state(random, &bare().bytes()).egui;
         if state.refusal() == 0 {
-            assert_eq!(reset(state).record(), expected);
+            assert_eq!(Remembering::from(cleared(state)).record(), expected);
         }
     }
 }
@@ -112,8 +116,8 @@ fn t_lent_and_no_table_give_the_same_answers() {
     let mut places = loads.filter(|(_, record)| record.kind() == 1);
     let [none, lent] = [places.next(), places.next()].map(|load| load.expect("a load").0);
     assert_eq!((answers[lent].refusal, answers[none].refusal), (0, 10));
-    // The reset's own answers still show the state before it.
-    let after = |load: usize| load + 1 + reset_frames().len();
+    // The answers of the clearing frames still show the state before them.
+    let after = |load: usize| load + 1 + clearing_frames().len();
     let lines = |from: usize, to: usize| -> Vec<&str> {
         answers[from..to]
             .iter()

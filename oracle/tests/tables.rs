@@ -1,7 +1,7 @@
 //! A maker's own table: its load, exp under it, and T lent against T.
 
 use oracle::axis_vectors::{random_list, Kind};
-use oracle::frame_call::run;
+use oracle::clock::run;
 use oracle::host_calls;
 use oracle::numbers::{exp, exp_by, Stated as _, TABLE};
 use oracle::random::Random;
@@ -165,7 +165,11 @@ fn t_lent_is_t() {
     }
     for list in [scene_list(6, 5000), fling_list(6, 5000)] {
         let bytes = list.concat();
-        let lines = || -> Vec<String> { run(&bytes).map(|output| output.full_line()).collect() };
+        let lines = || -> Vec<String> {
+            run(&bytes)
+                .map(|(left, output)| left.full_line(&output))
+                .collect()
+        };
         assert_eq!(under(lent, lines), lines());
     }
 }
@@ -173,7 +177,7 @@ fn t_lent_is_t() {
 /// The calls on records, with a table and without one.
 #[test]
 fn calls_by_t_are_the_calls_without_a_table() {
-    let (mut by_t, mut by_none) = ([0; 148], [0; 148]);
+    let (mut by_t, mut by_none) = ([0; 156], [0; 156]);
     host_calls::fresh(&mut by_t);
     host_calls::fresh(&mut by_none);
     for frame in scene_list(8, 2000) {
@@ -196,7 +200,11 @@ fn calls_by_t_are_the_calls_without_a_table() {
 #[test]
 fn frames_differ_under_another_table() {
     let bytes = fling_list(7, 5000).concat();
-    let lines = || -> Vec<String> { run(&bytes).map(|output| output.full_line()).collect() };
+    let lines = || -> Vec<String> {
+        run(&bytes)
+            .map(|(left, output)| left.full_line(&output))
+            .collect()
+    };
     let by_t = lines();
     for Good { name, table } in good(7).into_iter().skip(1) {
         let by_table = under(kept(table), lines);

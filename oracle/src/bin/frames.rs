@@ -4,17 +4,23 @@
 
 use std::{env, fs, process};
 
-use oracle::frame_call::{run, Output};
+use oracle::clock::{run, Remembering};
+use oracle::frame_call::Output;
 use oracle::streams::{print, read_input};
 use oracle::tables::{kept, load, under, Table};
 
+/// What is printed of the state that a frame left, and of its answer.
+type Line = fn(&Remembering, &Output) -> String;
+
 fn main() {
     let arguments: Vec<String> = env::args().skip(1).collect();
-    let (line, file): (fn(&Output) -> String, _) = match &arguments[..] {
-        [] => (Output::listing_line, None),
-        [word] if word == "full" => (Output::full_line, None),
-        [file] => (Output::listing_line, Some(file)),
-        [word, file] if word == "full" => (Output::full_line, Some(file)),
+    let listed: Line = |_, output| output.listing_line();
+    let full: Line = Remembering::full_line;
+    let (line, file) = match &arguments[..] {
+        [] => (listed, None),
+        [word] if word == "full" => (full, None),
+        [file] => (listed, Some(file)),
+        [word, file] if word == "full" => (full, Some(file)),
         _ => fail("usage: frames [full] [TABLE]", 2),
     };
     match file.map(|file| table(file)).transpose() {
@@ -35,8 +41,12 @@ fn table(file: &str) -> Result<&'static Table, u32> {
 }
 
 /// The lines of the frames on standard input.
-fn listing(table: Option<&'static Table>, line: fn(&Output) -> String) -> String {
+fn listing(table: Option<&'static Table>, line: Line) -> String {
     let bytes = read_input();
-    let lines = || run(&bytes).map(|output| line(&output)).collect();
+    let lines = || {
+        run(&bytes)
+            .map(|(left, output)| line(&left, &output))
+            .collect()
+    };
     under(table, lines)
 }

@@ -1,6 +1,7 @@
 //! The fixed list: every group of it, in order.
 
-use super::{fixed_flags, fixed_numbers, fixed_options, fixed_order, fixed_ranges, fixed_states};
+use super::{fixed_clocks, fixed_flags, fixed_numbers, fixed_options};
+use super::{fixed_order, fixed_ranges, fixed_states};
 use super::{Call, List};
 
 /// Adds calls on one subject.
@@ -48,10 +49,18 @@ const STATES: [Group; 5] = [
     fixed_states::reversed,
 ];
 
+const CLOCKS: [Group; 5] = [
+    fixed_clocks::around_the_time,
+    fixed_clocks::zeros,
+    fixed_clocks::halves,
+    fixed_clocks::not_finite,
+    fixed_clocks::faults_before_12,
+];
+
 /// The fixed calls.
 pub fn fixed_list() -> Vec<Call> {
     let mut list = List::default();
-    let subjects: [&[Group]; 5] = [&WORDS, &RANGES, &OPTIONS, &ORDER, &STATES];
+    let subjects: [&[Group]; 6] = [&WORDS, &RANGES, &OPTIONS, &ORDER, &STATES, &CLOCKS];
     for group in subjects.concat() {
         group(&mut list);
     }

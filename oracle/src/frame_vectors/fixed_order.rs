@@ -7,12 +7,12 @@ use crate::frame_state::State;
 use crate::words::{INF, NAN};
 
 /// A word and the bits that make it bad.
-type Slip = (usize, u32);
+pub type Slip = (usize, u32);
 
 const MINUS_ONE: u32 = (-1.0f32).to_bits();
 
 /// For checks 2 to 5 in turn: a slip early in the frame, and one late in it.
-const SLIPS: [[(Slip, Slip); 4]; 2] = [
+pub const SLIPS: [[(Slip, Slip); 4]; 2] = [
     [
         ((1, 2), (101, 4)),
         ((5, NAN.to_bits()), (104, NAN.to_bits())),
@@ -27,7 +27,7 @@ const SLIPS: [[(Slip, Slip); 4]; 2] = [
     ],
 ];
 
-fn slipped(frame: Frame, (word, bits): Slip) -> Frame {
+pub fn slipped(frame: Frame, (word, bits): Slip) -> Frame {
     frame.with(word, bits)
 }
 
@@ -54,7 +54,7 @@ pub fn many_slips(list: &mut List) {
 }
 
 /// The frame cut to that length, or followed by that byte.
-fn resized(frame: Frame, length: usize, byte: u8) -> Call {
+pub fn resized(frame: Frame, length: usize, byte: u8) -> Call {
     let mut bytes = frame.bytes();
     bytes.resize(length, byte);
     Call::new(bytes, State::default())
@@ -90,7 +90,7 @@ pub fn slips_and_states(list: &mut List) {
     }
     for frame in [bare(), full()] {
         for length in [0, 415, 416, 417] {
-            let state = broken();
+            let state = broken().into();
             list.call(Call {
                 state,
                 ..resized(frame, length, 0)

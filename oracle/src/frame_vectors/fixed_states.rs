@@ -17,7 +17,7 @@ impl List {
 const SINGLES: [f32; 5] = [NAN, INF, -INF, LARGEST, -LARGEST];
 
 /// The same, and numbers that change sides where a half is taken for a binary32 number.
-const DOUBLES: [u64; 10] = [
+pub const DOUBLES: [u64; 10] = [
     0x7ff8_0000_0000_0000,
     0x7ff0_0000_0000_0000,
     0xfff0_0000_0000_0000,

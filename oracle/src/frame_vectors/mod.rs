@@ -1,7 +1,8 @@
-//! Frames and states handed to a frame call, and which of checks 1 to 6 turns them back.
+//! Frames and states handed to a frame call, and which of checks 1 to 6 and 12 turns them back.
 
 mod edges;
 mod fixed;
+mod fixed_clocks;
 mod fixed_flags;
 mod fixed_numbers;
 mod fixed_options;
@@ -17,7 +18,8 @@ mod states;
 
 use std::collections::HashSet;
 
-use crate::frame_checks::{bad_word, frame_refusal};
+use crate::clock::Remembering;
+use crate::frame_checks::bad_word;
 use crate::frame_state::State;
 use crate::words::in_bytes;
 
@@ -35,13 +37,14 @@ pub(crate) const STORED: usize = 424;
 #[derive(Clone, Debug)]
 pub struct Call {
     frame: Vec<u8>,
-    state: State,
+    state: Remembering,
 }
 
 impl Call {
     /// A longer frame could not be stored whole.
-    fn new(frame: Vec<u8>, state: State) -> Call {
+    fn new(frame: Vec<u8>, state: impl Into<Remembering>) -> Call {
         assert!(frame.len() <= STORED);
+        let state = state.into();
         Call { frame, state }
     }
 
@@ -50,15 +53,12 @@ impl Call {
         &self.frame
     }
 
-    /// The lowest number of checks 1 to 6 that applies, or 0.
+    /// The first of 1 to 6 and 12 that applies, or 0.
     pub fn refusal(&self) -> u32 {
-        match frame_refusal(&self.frame) {
-            0 => self.state.refusal(),
-            refusal => refusal,
-        }
+        self.state.refusal_of(&self.frame)
     }
 
-    /// The record that asks: the length, the frame's bytes followed by zeros, the state; 576 bytes.
+    /// The record that asks: the length, the frame's bytes followed by zeros, the state; 584 bytes.
     pub fn input_record(&self) -> Vec<u8> {
         let mut stored = self.frame.clone();
         stored.resize(STORED, 0);

@@ -5,6 +5,8 @@ use super::places::OPTIONS;
 use super::random_words::{mutated, number};
 use super::states::{doubles, flags, singles, stored};
 use super::{Call, Frame, STORED};
+use crate::clock::Remembering;
+use crate::frame_checks::time;
 use crate::frame_state::State;
 use crate::random::Random;
 
@@ -24,7 +26,8 @@ fn random_call(random: &mut Random) -> Call {
         let length = [near, random.below(STORED + 1)][random.below(2)];
         bytes.resize(length, random.word() as u8);
     }
-    Call::new(bytes, random_state(random))
+    let state = random_state(random, &bytes);
+    Call::new(bytes, state)
 }
 
 /// A good frame, in most cases with some options on and others off; half of those off hold garbage.
@@ -48,8 +51,34 @@ pub(crate) fn good_frame(random: &mut Random) -> Frame {
     frame
 }
 
+/// A state for that frame, and what it remembers.
+pub fn random_state(random: &mut Random, frame: &[u8]) -> Remembering {
+    Remembering {
+        egui: egui_state(random),
+        time: remembered(random, frame),
+    }
+}
+
+/// Mostly a time at or before the frame's, in a few cases a later one, or none that a frame can have.
+fn remembered(random: &mut Random, frame: &[u8]) -> f64 {
+    let now = if frame.len() < 212 { 0.0 } else { time(frame) };
+    let [before, after] = [now.next_down(), now.next_up()];
+    match random.below(32) {
+        0 => [f64::NAN, f64::INFINITY, f64::NEG_INFINITY][random.below(3)],
+        1 => f64::from_bits(0x7ff0_0000_0000_0000 | random.long()),
+        2 => [0.0, -0.0][random.below(2)],
+        3 => -random.unit() * 1e9,
+        4 => now + random.unit() * 1e4,
+        5 => now + random.unit() / 60.0,
+        6 | 7 => [before, after][random.below(2)],
+        8..=12 => now,
+        13..=18 => random.unit() * now,
+        _ => now - random.unit() / 10.0,
+    }
+}
+
 /// Mostly a good state; in one case of four a number of any kind is put into it.
-pub fn random_state(random: &mut Random) -> State {
+fn egui_state(random: &mut Random) -> State {
     let mut state = match random.below(4) {
         0 => State::default(),
         1 => stored(),

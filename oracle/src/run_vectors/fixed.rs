@@ -1,9 +1,12 @@
 //! The fixed list.
 
+use super::fixed_clocks::*;
 use super::fixed_inside::*;
 use super::fixed_records::*;
 use super::fixed_refusals::*;
+use super::fixed_resets::*;
 use super::fixed_rests::*;
+use super::hung_target::hung_target;
 use super::lists::{list, moving, paced, with_band};
 use super::{Call, Record, Run};
 use crate::settling_run::MOST_FRAMES;
@@ -33,6 +36,9 @@ pub fn fixed_calls() -> Vec<Call> {
         first_frames_refused,
         second_frames_refused,
         later_frames_refused,
+        remembered_times,
+        before_and_behind_12,
+        runs_that_follow,
     ];
     groups.iter().flat_map(|group| group()).collect()
 }
@@ -48,7 +54,7 @@ pub fn fixed_runs() -> Vec<Run> {
     runs
 }
 
-/// The fixed records: all runs by T, then some of them under tables, and by T again.
+/// The fixed records: all runs by T, then some of them under tables, and by T again; then frames and resets.
 pub fn fixed_list() -> Vec<Record> {
     let mut list: Vec<Record> = fixed_runs().into_iter().map(Record::Run).collect();
     // Nobody loaded the zeros that are there at first.
@@ -65,6 +71,7 @@ pub fn fixed_list() -> Vec<Record> {
         list.push(Record::RunBy(Run::of(&that_show_the_table()[0])));
     }
     list.extend(that_show_the_table().iter().map(Run::of).map(Record::Run));
+    list.extend([resets(), steps_of_time(), refusals(), hung_target()].concat());
     list
 }
 
@@ -95,6 +102,7 @@ fn under_tables() -> Vec<Run> {
     calls.extend(later_frames_refused());
     let mut late = past_the_last_time().into_iter();
     calls.extend(late.find(|call| call.answer().refusal == 3));
+    calls.extend(runs_that_follow());
     let mut runs: Vec<Run> = calls.iter().map(Run::of).collect();
     runs.extend(damaged_and_refused().into_iter().step_by(5));
     runs.extend(absent_options().into_iter().step_by(4));

@@ -21,7 +21,7 @@ const WORDS: [u32; 4] = [0x42c8_0000, NANS[0], 0x0102_0304, NANS[2]];
 
 /// Without the one option that every list here has after a frame.
 fn bare(mut call: Call) -> Call {
-    call.state.interact_rect = None;
+    call.state.egui.interact_rect = None;
     call
 }
 
@@ -106,6 +106,6 @@ pub fn not_a_numbers() -> Vec<Run> {
     let run = Run::of(&on_its_way);
     let at = |word: usize, bits: [u32; 3]| bits.map(|bits| run.clone().with(word, bits));
     let numbers = [0, 23, 15].map(|word| at(word, NANS));
-    let times = [12, 14].map(|word| at(word, HIGH_NANS));
+    let times = [12, 14, 38].map(|word| at(word, HIGH_NANS));
     [numbers.as_flattened(), times.as_flattened()].concat()
 }

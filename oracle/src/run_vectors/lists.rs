@@ -1,6 +1,7 @@
 //! A list that a run is tried on: its frame with nothing happening, and states of it.
 
 use super::Call;
+use crate::clock::Remembering;
 use crate::frame_call::frame_call;
 use crate::frame_state::{ScrollingToTarget, State};
 use crate::frame_vectors::{example, Frame};
@@ -33,6 +34,17 @@ pub fn restless() -> Frame {
     list().with_number(38, 0.0)
 }
 
+/// The same with a vertical bar of that length, which is pressed there, and whose handle is that long at the least.
+pub fn pressed(length: f32, least: f32, y: f32) -> Frame {
+    list()
+        .with_all([10, 79], 1)
+        .with_numbers(11, &[0.0, 0.0, 200.0, length])
+        .with_number(29, 10.0)
+        .with_numbers(32, &[10.0, least])
+        .with_number(67, 1.0)
+        .with_numbers(80, &[175.0, y])
+}
+
 /// The state of that list at that offset with that velocity.
 pub fn moving(offset: f32, velocity: f32) -> State {
     let mut state = frame_call(State::default(), &list().bytes()).state;
@@ -52,9 +64,9 @@ pub fn on_its_way(offset: f32, goal: f32, span: (f64, f64)) -> State {
 }
 
 /// A run at a screen's pace.
-pub fn paced(state: State, frame: Frame, limit: u32) -> Call {
+pub fn paced(state: impl Into<Remembering>, frame: Frame, limit: u32) -> Call {
     Call {
-        state,
+        state: state.into(),
         frame: frame.bytes(),
         increment: SCREEN,
         limit,

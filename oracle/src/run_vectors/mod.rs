@@ -1,28 +1,34 @@
-//! Settling runs on records and the loads of the tables that they use, in one list, and the answers that the documents give them.
+//! Settling runs on records and the loads of the tables that they use, frames and resets on a record that is kept, in one list, and the
+//! answers that the documents give them.
 
 mod answers;
 mod fixed;
+mod fixed_clocks;
 mod fixed_inside;
 mod fixed_records;
 mod fixed_refusals;
+mod fixed_resets;
 mod fixed_rests;
+mod hung_target;
 pub mod lists;
 mod random;
 mod runs;
 
-use crate::frame_state::State;
+use crate::clock::Remembering;
+use crate::frame_vectors::{Frame, STORED};
 use crate::settling_run::{settle, Settled};
 use crate::words::in_bytes;
 
 pub use answers::answers;
 pub use fixed::{fixed_calls, fixed_list, fixed_runs};
+pub use hung_target::hung_target;
 pub use random::{arbitrary_calls, on_any_record, random_list, scene_calls};
 pub use runs::{Left, Run, UNWRITTEN};
 
 /// One run by value: the state, the frame's bytes, the increment and the limit.
 #[derive(Clone, Debug)]
 pub struct Call {
-    pub state: State,
+    pub state: Remembering,
     pub frame: Vec<u8>,
     pub increment: f64,
     pub limit: u32,
@@ -49,14 +55,27 @@ pub enum Record {
     Run(Run),
     /// Under the table as the loads before it left it, zeros at first.
     RunBy(Run),
+    /// A fresh state in the record that is kept, which is zeros at first.
+    Fresh,
+    /// A frame by T on that record.
+    Frame(Vec<u8>),
+    /// A reset of that record.
+    Reset,
 }
 
 impl Record {
+    pub fn frame(frame: &Frame) -> Record {
+        Record::Frame(frame.bytes())
+    }
+
     pub fn name(&self) -> &'static str {
         match self {
             Record::Load(_) => "load",
             Record::Run(_) => "run",
             Record::RunBy(_) => "run by a table",
+            Record::Fresh => "fresh",
+            Record::Frame(_) => "frame",
+            Record::Reset => "reset",
         }
     }
 
@@ -66,7 +85,19 @@ impl Record {
             Record::Load(bytes) => (1, [&in_bytes(&[bytes.len() as u32]), &bytes[..]].concat()),
             Record::Run(run) => (2, run.stored()),
             Record::RunBy(run) => (3, run.stored()),
+            Record::Fresh => (4, Vec::new()),
+            Record::Frame(bytes) => (5, stored_frame(bytes)),
+            Record::Reset => (6, Vec::new()),
         };
         [in_bytes(&[kind]), rest].concat()
     }
+}
+
+/// The frame's length, and its bytes followed by zeros.
+fn stored_frame(bytes: &[u8]) -> Vec<u8> {
+    // A longer frame could not be stored whole.
+    assert!(bytes.len() <= STORED);
+    let mut stored = bytes.to_vec();
+    stored.resize(STORED, 0);
+    [in_bytes(&[bytes.len() as u32]), stored].concat()
 }

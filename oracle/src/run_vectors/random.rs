@@ -1,25 +1,28 @@
 //! Pseudo-random runs: on the states that scenes lead to and on any others, with frames that mostly move no axis.
 
+use super::fixed_clocks::again;
 use super::{Call, Record, Run};
-use crate::frame_call::frame_call;
+use crate::clock::Remembering;
 use crate::frame_checks::{LATEST, LENGTH};
 use crate::frame_state::State;
 use crate::frame_vectors::{random_state, Frame, STORED};
 use crate::random::Random;
 use crate::records::FLAGS;
-use crate::scenes::{fling_list, scene_list};
+use crate::scenes::{fling_list, scene_list, scenes_with_resets, Played};
 use crate::settling_run::{MOST_FRAMES, MOVING_FLAGS, MOVING_NUMBERS};
 use crate::tables::random_load;
 use crate::words::from_bytes;
 
-/// That many pseudo-random records, a load now and then.
+/// That many pseudo-random records: runs, a load now and then, and frames and resets on the record that is kept.
 pub fn random_list(seed: u64, count: usize) -> Vec<Record> {
     let random = &mut Random::new(seed);
     let mut calls = scene_calls(random.long(), count / 2 + 1);
     calls.extend(arbitrary_calls(random.long(), count / 2 + 1));
     let mut calls = calls.into_iter().cycle();
+    let mut on_kept = on_kept_record(random.long(), count / 8).into_iter().cycle();
     let mut record = |_| match random.below(32) {
         0 => Record::Load(random_load(random)),
+        1..=4 => on_kept.next().expect("a record"),
         kind => {
             let run = on_any_record(random, &calls.next().expect("a run"));
             match kind % 2 {
@@ -29,6 +32,17 @@ pub fn random_list(seed: u64, count: usize) -> Vec<Record> {
         }
     };
     (0..count).map(&mut record).collect()
+}
+
+/// A fresh state, and that many frames and resets of scenes on it.
+fn on_kept_record(seed: u64, count: usize) -> Vec<Record> {
+    let record = |played| match played {
+        Played::Frame(bytes) => Record::Frame(bytes),
+        Played::Reset => Record::Reset,
+    };
+    let mut records = vec![Record::Fresh];
+    records.extend(scenes_with_resets(seed, count).into_iter().map(record));
+    records
 }
 
 /// The run on a record: with anything in every other one's absent options and in the buffer, and at times with a damaged flag.
@@ -57,10 +71,10 @@ fn frames(random: &mut Random, count: usize) -> Vec<Vec<u8>> {
 /// That many runs, each on the state that the frames of scenes before it led to.
 pub fn scene_calls(seed: u64, count: usize) -> Vec<Call> {
     let random = &mut Random::new(seed);
-    let mut state = State::default();
+    let mut state = Remembering::default();
     let mut call = |frame: Vec<u8>| {
         let call = random_call(random, state, &frame);
-        state = frame_call(state, &frame).state;
+        state.frame(&frame);
         call
     };
     let frames = frames(&mut Random::new(!seed), count);
@@ -71,9 +85,9 @@ pub fn scene_calls(seed: u64, count: usize) -> Vec<Call> {
 pub fn arbitrary_calls(seed: u64, count: usize) -> Vec<Call> {
     let random = &mut Random::new(seed);
     let mut call = |frame: Vec<u8>| {
-        let mut state = random_state(random);
+        let mut state = random_state(random, &frame);
         if random.below(16) == 0 {
-            hurl(random, &mut state);
+            hurl(random, &mut state.egui);
         }
         random_call(random, state, &frame)
     };
@@ -93,7 +107,7 @@ fn hurl(random: &mut Random, state: &mut State) {
     }
 }
 
-fn random_call(random: &mut Random, state: State, bytes: &[u8]) -> Call {
+fn random_call(random: &mut Random, state: Remembering, bytes: &[u8]) -> Call {
     let increment = increment(random, bytes);
     let mut frame = match random.below(8) {
         0 => bytes.to_vec(),
@@ -103,11 +117,15 @@ fn random_call(random: &mut Random, state: State, bytes: &[u8]) -> Call {
         let near = 410 + random.below(15);
         frame.resize([near, random.below(STORED + 1)][random.below(2)], 0);
     }
-    Call {
+    let call = Call {
         state,
         frame,
         increment,
         limit: limit(random),
+    };
+    match random.below(16) {
+        0 => again(call),
+        _ => call,
     }
 }
 

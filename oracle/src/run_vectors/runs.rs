@@ -1,9 +1,9 @@
 //! A run in the bytes that the library takes; some records are those of no state.
 
-use super::Call;
-use crate::frame_vectors::STORED;
+use super::{stored_frame, Call};
+use crate::clock::StateBytes;
 use crate::host_calls::{settle, settle_by, RunBytes, UsedBytes};
-use crate::records::{write_state, StateBytes, OPTIONS};
+use crate::records::OPTIONS;
 use crate::tables::Table;
 use crate::words::{from_bytes, in_bytes};
 
@@ -30,8 +30,8 @@ pub struct Left {
 impl Run {
     /// On the record of the call's state, with zeros for absent options.
     pub fn of(call: &Call) -> Run {
-        let mut state = [0; 148];
-        write_state(&call.state, &mut state);
+        let mut state = [0; 156];
+        call.state.write(&mut state);
         Run {
             state,
             frame: call.frame.clone(),
@@ -77,11 +77,7 @@ impl Run {
 
     /// The frame's length, its bytes followed by zeros, the state, the increment and the limit, the buffer for the frames used.
     pub(super) fn stored(&self) -> Vec<u8> {
-        // A longer frame could not be stored whole.
-        assert!(self.frame.len() <= STORED);
-        let mut frame = self.frame.clone();
-        frame.resize(STORED, 0);
-        let length = (self.frame.len() as u32).to_le_bytes();
-        [&length, &frame[..], &self.state, &self.run, &self.used].concat()
+        let frame = stored_frame(&self.frame);
+        [&frame[..], &self.state, &self.run, &self.used].concat()
     }
 }

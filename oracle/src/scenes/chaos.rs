@@ -19,6 +19,7 @@ pub fn anything(stage: &mut Stage) {
 pub fn zeros(stage: &mut Stage) {
     let frame = stage.setting();
     for _ in 0..4 + stage.random.below(12) {
+        let frame = stage.clock.tick(&mut stage.random, frame);
         let played = zeroed(&mut stage.random, frame);
         stage.play_as_it_is(in_order(played));
     }

@@ -1,11 +1,14 @@
 //! Scenes of use: frames as hosts send them, one list on one state, and hostile words among them.
+//!
+//! The clock of these hosts is set back now and then. In lists of frames alone some frames are then refused with 12, and the clock is put
+//! right; in lists with resets it may go anywhere.
 
 mod bars;
 mod chaos;
 mod clock;
 mod drags;
 mod hostile;
-mod resets;
+mod ordinary;
 mod resizes;
 mod setting;
 mod short_decays;
@@ -16,38 +19,83 @@ mod wheels;
 
 use stage::Stage;
 
-/// That many whole frames of drags and flings alone, where exp shows.
-pub fn fling_list(seed: u64, count: usize) -> Vec<Vec<u8>> {
-    let mut stage = Stage::new(seed, count + 1);
-    while !stage.is_full() {
-        match stage.random.below(3) {
-            0 => drags::touch(&mut stage),
-            _ => short_decays::flings(&mut stage),
-        }
-    }
-    let mut frames = stage.finish();
-    frames.truncate(count);
-    frames
+/// What is played in its place of a list.
+#[derive(Clone, Debug, PartialEq)]
+pub enum Played {
+    Frame(Vec<u8>),
+    Reset,
 }
 
 /// That many frames; the last one is cut short, since only a last part can be.
 pub fn scene_list(seed: u64, count: usize) -> Vec<Vec<u8>> {
-    let mut stage = Stage::new(seed, count);
+    frames_of(filled(Stage::new(seed, count, false), scene))
+}
+
+/// That many whole frames of drags and flings alone, where exp shows.
+pub fn fling_list(seed: u64, count: usize) -> Vec<Vec<u8>> {
+    whole_frames(seed, count, fling)
+}
+
+/// That many whole frames of which some half are of drags and flings.
+pub fn half_fling_list(seed: u64, count: usize) -> Vec<Vec<u8>> {
+    whole_frames(seed, count, |stage| match stage.random.below(2) {
+        0 => fling(stage),
+        _ => scene(stage),
+    })
+}
+
+/// That many frames and resets of scenes.
+pub fn scenes_with_resets(seed: u64, count: usize) -> Vec<Played> {
+    filled(Stage::new(seed, count, true), scene)
+}
+
+/// The same of drags and flings alone.
+pub fn flings_with_resets(seed: u64, count: usize) -> Vec<Played> {
+    filled(Stage::new(seed, count, true), fling)
+}
+
+fn filled(mut stage: Stage, scene: fn(&mut Stage)) -> Vec<Played> {
     while !stage.is_full() {
-        match stage.random.below(21) {
-            0..=2 => sticking::growing_list(&mut stage),
-            3..=5 => drags::touch(&mut stage),
-            6 | 7 => short_decays::flings(&mut stage),
-            8..=10 => wheels::gestures(&mut stage),
-            11..=13 => bars::presses(&mut stage),
-            14 => bars::presses_on_narrow_bars(&mut stage),
-            15 | 16 => targets::jumps(&mut stage),
-            17 => targets::clock_over_odd_spans(&mut stage),
-            18 => resizes::resizes(&mut stage),
-            19 => chaos::zeros(&mut stage),
-            _ => chaos::anything(&mut stage),
-        }
-        resets::sometimes(&mut stage);
+        scene(&mut stage);
     }
     stage.finish()
+}
+
+fn whole_frames(seed: u64, count: usize, scene: fn(&mut Stage)) -> Vec<Vec<u8>> {
+    // One more, which is cut short.
+    let mut frames = frames_of(filled(Stage::new(seed, count + 1, false), scene));
+    frames.truncate(count);
+    frames
+}
+
+fn frames_of(list: Vec<Played>) -> Vec<Vec<u8>> {
+    let frame = |played| match played {
+        Played::Frame(bytes) => bytes,
+        Played::Reset => panic!("a list of frames alone"),
+    };
+    list.into_iter().map(frame).collect()
+}
+
+fn fling(stage: &mut Stage) {
+    match stage.random.below(3) {
+        0 => drags::touch(stage),
+        _ => short_decays::flings(stage),
+    }
+}
+
+fn scene(stage: &mut Stage) {
+    match stage.random.below(22) {
+        0..=2 => sticking::growing_list(stage),
+        3..=5 => drags::touch(stage),
+        6 | 7 => short_decays::flings(stage),
+        8..=10 => wheels::gestures(stage),
+        11..=13 => bars::presses(stage),
+        14 | 15 => bars::presses_on_narrow_bars(stage),
+        16 | 17 => targets::jumps(stage),
+        18 => targets::clock_over_odd_spans(stage),
+        19 => resizes::resizes(stage),
+        20 => chaos::zeros(stage),
+        _ => chaos::anything(stage),
+    }
+    ordinary::sometimes(stage);
 }

@@ -41,7 +41,7 @@ fn asked(stage: &mut Stage, frame: Frame) -> Frame {
 pub fn aimed(stage: &mut Stage, frame: Frame, d: usize) -> Frame {
     let number = |word| f32::from_bits(frame.word(word));
     let (area, size) = (number(40 + d), number(82 + d));
-    let begun = (area - stage.state.offset[d]).clamp(-1e5, 1e5);
+    let begun = (area - stage.state.egui.offset[d]).clamp(-1e5, 1e5);
     let random = &mut stage.random;
     let start = begun + between(random, -20.0, size + 20.0);
     let length = pick(random, &[0.0, 18.0, 60.0, 600.0]);
@@ -95,7 +95,7 @@ pub fn clock_over_odd_spans(stage: &mut Stage) {
             1 => 1.0,
             _ => random.unit() * 1.4 - 0.2,
         };
-        stage.clock.time = (start + part * f64::from(length)).max(0.0);
+        stage.set_clock(start + part * f64::from(length));
         stage.play(frame);
     }
 }

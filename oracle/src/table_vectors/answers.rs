@@ -3,8 +3,7 @@
 use super::Record;
 use crate::answers::Answer;
 use crate::axis_vectors::Call;
-use crate::frame_call::{frame_call, Output};
-use crate::frame_state::State;
+use crate::clock::Remembering;
 use crate::numbers::Stated as _;
 use crate::tables::{kept, load, under, Table};
 use crate::words::{in_hex, shown};
@@ -12,14 +11,14 @@ use crate::words::{in_hex, shown};
 /// What a list has led to: the table that serves, none for T, and the state.
 struct Run {
     table: Option<&'static Table>,
-    state: State,
+    state: Remembering,
 }
 
 /// The answers, from a fresh state and with T serving.
 pub fn answers(list: &[Record]) -> Vec<Answer> {
     let mut run = Run {
         table: None,
-        state: State::default(),
+        state: Remembering::default(),
     };
     list.iter().map(|record| run.answer(record)).collect()
 }
@@ -53,10 +52,9 @@ impl Run {
     }
 
     fn frame(&mut self, bytes: &[u8]) -> Answer {
-        let output = under(self.table, || frame_call(self.state, bytes));
-        let Output { refusal, state, .. } = output;
-        self.state = state;
-        let line = format!("frame {}", output.listing_line());
+        let output = under(self.table, || self.state.frame(bytes));
+        let (refusal, listed) = (output.refusal, output.listing_line());
+        let line = format!("frame {listed}");
         Answer { refusal, line }
     }
 }

@@ -5,10 +5,11 @@ use crate::axis_calls::{LONGEST_DECAY, SHORTEST_DECAY};
 use crate::axis_vectors::random_numbers::ENDS;
 use crate::axis_vectors::scene::{Scene, PLAIN, RUBBER};
 use crate::axis_vectors::Call;
+use crate::frame_checks::LATEST;
 use crate::frame_vectors::{example, Frame};
 use crate::scenes::{fling_list, scene_list};
 use crate::tables::{bytes_of, good, refused, t_bytes, Refused};
-use crate::words::{around, INF, LARGEST, NAN};
+use crate::words::{around, from_bytes, INF, LARGEST, NAN};
 
 /// Of the tables and of the frames.
 const SEED: u64 = 4;
@@ -130,22 +131,27 @@ fn changing(frames: &mut impl Iterator<Item = Record>) -> Vec<Record> {
     list
 }
 
-/// The same frames from the same state under T lent and under no table.
+/// The same frames from the same state under T lent and under no table, all at the last time, which no other is after.
 fn t_lent_and_none() -> Vec<Record> {
     let mut frames = fling_list(SEED + 2, 40);
     frames.extend(scene_list(SEED + 2, 41).into_iter().take(40));
     let mut list = Vec::new();
     for table in [t_bytes().to_vec(), Vec::new()] {
         list.push(Record::Load(table));
-        let played = reset_frames().into_iter().chain(frames.clone());
-        list.extend(played.map(Record::Frame));
+        let played = clearing_frames().into_iter().chain(frames.clone());
+        list.extend(played.map(|frame| Record::Frame(at_last_time(&frame))));
     }
     list
 }
 
+fn at_last_time(frame: &[u8]) -> Vec<u8> {
+    let words = from_bytes(frame).try_into().expect("104 words");
+    Frame::of(words).with_time(LATEST.to_bits()).bytes()
+}
+
 /// Frames that lead every state whose numbers are finite to one state: a press on each bar ends targets, a frame without one ends the
 /// presses, and a wheel's turn by 0 clears that there was a bounce.
-pub fn reset_frames() -> Vec<Vec<u8>> {
+pub fn clearing_frames() -> Vec<Vec<u8>> {
     let frame = example()
         .with_all([1, 2, 15, 17, 19, 21, 48, 54], 1)
         .with_all([25, 39], 0)

@@ -8,7 +8,7 @@ use crate::axis_vectors::Call;
 use crate::words::in_bytes;
 
 pub use answers::answers;
-pub use fixed::{fixed_list, reset_frames};
+pub use fixed::{clearing_frames, fixed_list};
 pub use random::random_list;
 
 /// One record of the list.

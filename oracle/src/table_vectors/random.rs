@@ -3,7 +3,7 @@
 use super::Record;
 use crate::axis_vectors::{self, Kind};
 use crate::random::Random;
-use crate::scenes::{fling_list, scene_list};
+use crate::scenes::half_fling_list;
 use crate::tables::random_load;
 use crate::words::EDGES;
 
@@ -21,11 +21,9 @@ pub fn random_list(seed: u64, count: usize) -> Vec<Record> {
     (0..count).map(&mut record).collect()
 }
 
-/// Whole frames of every scene, and as many of flings.
+/// Whole frames of every scene, and some more of flings.
 fn frames(seed: u64, count: usize) -> Vec<Record> {
-    let mut frames = scene_list(seed, count / 4 + 2);
-    frames.pop();
-    frames.extend(fling_list(seed, count / 4 + 1));
+    let frames = half_fling_list(seed, count / 2 + 1);
     frames.into_iter().map(Record::Frame).collect()
 }
 

@@ -5,10 +5,10 @@ use super::stage::Stage;
 use crate::frame_vectors::Frame;
 use crate::words::away;
 
-/// After some scenes a reset, after others only an explicit offset, after most nothing.
+/// After some scenes all is given up, after others there is only an explicit offset, after most nothing.
 pub fn sometimes(stage: &mut Stage) {
     match stage.random.below(6) {
-        0 | 1 => reset(stage),
+        0 | 1 => give_up(stage),
         2 => {
             let frame = setting(&mut stage.random);
             let (x, y) = (stage.random.unit() * 900.0, stage.random.unit() * 900.0);
@@ -26,7 +26,7 @@ pub fn placed(frame: Frame, x: f32, y: f32) -> Frame {
 }
 
 /// Two frames: a press on each bar ends targets, and one without a press ends the presses.
-fn reset(stage: &mut Stage) {
+fn give_up(stage: &mut Stage) {
     let frame = setting(&mut stage.random);
     let frame = placed(frame, 0.0, 0.0)
         .with_all([10, 24, 25, 39], 0)
