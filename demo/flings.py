@@ -15,6 +15,7 @@ DECAY_TIMES = [0.5, 1.0, 2.0]
 STOP_DISTANCE = 1.0
 VELOCITIES = range(-6000, 6001, 25)
 LIMIT = 10_000
+STATE_BYTES = 156
 
 
 def list_frame(decay_time, rubber_band):
@@ -25,7 +26,7 @@ def list_frame(decay_time, rubber_band):
 
 def at_rest(library, frame):
     """The state of the list after its first frame, which has to be accepted and want no repaint."""
-    state, out = ctypes.create_string_buffer(148), ctypes.create_string_buffer(100)
+    state, out = ctypes.create_string_buffer(STATE_BYTES), ctypes.create_string_buffer(100)
     library.strakobud_fresh(state)
     refusal = library.strakobud_frame(state, frame, ctypes.c_size_t(len(frame)), out)
     if refusal or any(out.raw[96:]):
@@ -35,7 +36,7 @@ def at_rest(library, frame):
 
 def frames_until_rest(library, state, frame, velocity):
     """Of a state with that velocity on y, word 24."""
-    flung = ctypes.create_string_buffer(scene.replaced(state, {24: float(velocity)}), 148)
+    flung = ctypes.create_string_buffer(scene.replaced(state, {24: float(velocity)}), STATE_BYTES)
     used = ctypes.create_string_buffer(4)
     run = struct.pack("<dI", 1 / scene.RATE, LIMIT)
     refusal = library.strakobud_settle(flung, frame, ctypes.c_size_t(len(frame)), run, used)

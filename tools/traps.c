@@ -13,7 +13,8 @@
 
 #include "strakobud.h"
 
-enum { DIVISION, INVALID, OVERFLOW, KINDS, ANSWERS = 9 };
+/* The last answer of a frame is 12. */
+enum { DIVISION, INVALID, OVERFLOW, KINDS, ANSWERS = 13 };
 
 static const int EXCEPTIONS[KINDS] = {[DIVISION] = FE_DIVBYZERO, [INVALID] = FE_INVALID, [OVERFLOW] = FE_OVERFLOW};
 static const char *const NAMES[KINDS] = {[DIVISION] = "division by zero", [INVALID] = "invalid operation", [OVERFLOW] = "overflow"};

@@ -1,11 +1,12 @@
 //! One driver for every side: the same frames, no printing between them.
 
 use std::hint::black_box;
+use std::slice::ChunksExact;
 use std::time::Instant;
 use std::{env, fs};
 
 /// A state's record.
-pub type StateBytes = [u8; 148];
+pub type StateBytes = [u8; 156];
 
 /// The record of what a frame puts out besides the state.
 pub type OutBytes = [u8; 100];
@@ -16,10 +17,12 @@ const LENGTH: usize = 416;
 const FRAMES: u32 = 1000;
 
 /// `SIDE FILE COUNT`: runs that many frames of the file, over and over, on one state, and prints the nanoseconds, a sum over all
-/// answers and one over the last state. `SIDE FILE COUNT stack` prints the bytes of stack that the deepest of these calls
-/// took. With `flung` after these the list has a velocity at the start.
+/// answers and one over the last state. Ahead of the file's first frame the state is reset, since the clock falls back there.
+/// `SIDE FILE COUNT stack` prints the bytes of stack that the deepest of these calls took. With `flung` after these the list has a
+/// velocity at the start.
 pub fn drive(
     fresh: fn(&mut StateBytes),
+    reset: fn(&mut StateBytes),
     frame: impl Fn(&mut StateBytes, &[u8], &mut OutBytes) -> u32,
 ) {
     let arguments: Vec<String> = env::args().collect();
@@ -29,8 +32,7 @@ pub fn drive(
     let is_given = |word: &str| mode.iter().any(|given| given == word);
     let bytes = fs::read(file).expect("the frames are read");
     let count: usize = count.parse().expect("a count");
-    let frames = bytes.chunks_exact(LENGTH).cycle().take(count);
-    let mut state = [0; 148];
+    let mut state = [0; 156];
     fresh(&mut state);
     if is_given("flung") {
         // word 24 of a state: 300 points per second on y
@@ -38,31 +40,62 @@ pub fn drive(
     }
     if !is_given("stack") {
         let begin = Instant::now();
-        let sum = sum_of_answers(frames, &mut state, frame);
+        let sum = sum_of_answers(passes(&bytes, count), &mut state, reset, frame);
         // A whole number, since what writing out a fraction takes depends on its digits.
         let nanoseconds = begin.elapsed().as_nanos() as u64;
         println!("{nanoseconds} {sum:016x} {:016x}", sum_of(&state));
     } else {
-        let mut out = [0; 100];
-        let depths = frames.map(|bytes| depth_of(|| frame(&mut state, bytes, &mut out)));
-        println!("{}", depths.max().unwrap_or(0));
+        println!(
+            "{}",
+            deepest(passes(&bytes, count), &mut state, reset, frame)
+        );
     }
+}
+
+/// The frames of each time through the file, the last time as many as are left.
+fn passes(bytes: &[u8], count: usize) -> impl Iterator<Item = ChunksExact<'_, u8>> {
+    let whole = bytes.len() / LENGTH;
+    let pass = move |start| &bytes[..LENGTH * whole.min(count - start)];
+    (0..count)
+        .step_by(whole)
+        .map(move |start| pass(start).chunks_exact(LENGTH))
 }
 
 /// The loop that is timed and counted, by itself, so that nothing else in the driver changes how it is compiled.
 #[inline(never)]
 fn sum_of_answers<'a>(
-    frames: impl Iterator<Item = &'a [u8]>,
+    passes: impl Iterator<Item = ChunksExact<'a, u8>>,
     state: &mut StateBytes,
+    reset: fn(&mut StateBytes),
     frame: impl Fn(&mut StateBytes, &[u8], &mut OutBytes) -> u32,
 ) -> u64 {
     let (mut sum, mut out) = (0u64, [0; 100]);
-    for bytes in frames {
-        let refusal = frame(black_box(state), black_box(bytes), &mut out);
-        sum = sum.wrapping_mul(31).wrapping_add(u64::from(refusal));
-        sum = sum.wrapping_add(u64::from(state[4]) + u64::from(out[8]));
+    for frames in passes {
+        reset(black_box(state));
+        for bytes in frames {
+            let refusal = frame(black_box(state), black_box(bytes), &mut out);
+            sum = sum.wrapping_mul(31).wrapping_add(u64::from(refusal));
+            sum = sum.wrapping_add(u64::from(state[4]) + u64::from(out[8]));
+        }
     }
     sum
+}
+
+/// The most stack that one of the calls takes.
+fn deepest<'a>(
+    passes: impl Iterator<Item = ChunksExact<'a, u8>>,
+    state: &mut StateBytes,
+    reset: fn(&mut StateBytes),
+    frame: impl Fn(&mut StateBytes, &[u8], &mut OutBytes) -> u32,
+) -> usize {
+    let (mut most, mut out) = (0, [0; 100]);
+    for frames in passes {
+        reset(state);
+        for bytes in frames {
+            most = most.max(depth_of(|| frame(state, bytes, &mut out)));
+        }
+    }
+    most
 }
 
 fn sum_of(bytes: &[u8]) -> u64 {

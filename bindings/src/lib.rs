@@ -1,7 +1,7 @@
 //! The host library for Rust: the functions of include/strakobud.h, which documents them.
 
 /// A state's record.
-pub type StateBytes = [u8; 148];
+pub type StateBytes = [u8; 156];
 
 /// The record of what a frame puts out besides the state.
 pub type OutBytes = [u8; 100];
@@ -18,6 +18,7 @@ pub type UsedBytes = [u8; 4];
 mod c {
     extern "C" {
         pub fn strakobud_fresh(state: *mut u8);
+        pub fn strakobud_reset(state: *mut u8);
         pub fn strakobud_frame(state: *mut u8, frame: *const u8, len: usize, out: *mut u8) -> u32;
         pub fn strakobud_frame_by(
             state: *mut u8,
@@ -56,6 +57,10 @@ mod c {
 
 pub fn fresh(state: &mut StateBytes) {
     unsafe { c::strakobud_fresh(state.as_mut_ptr()) }
+}
+
+pub fn reset(state: &mut StateBytes) {
+    unsafe { c::strakobud_reset(state.as_mut_ptr()) }
 }
 
 pub fn frame(state: &mut StateBytes, frame: &[u8], out: &mut OutBytes) -> u32 {

@@ -1,17 +1,24 @@
 //! Frames on states.
+//!
+//! The Rust knows neither the remembered time nor 12, so a comparison with it leaves both out: the oracle hands the Rust the first 37 words of a
+//! record and never the other two. Where its model of the clock (oracle/src/clock.rs) says 12, the Rust is not asked: the library's refusal and
+//! its untouched buffers are compared with that model alone, and counted under 12. In half of these cases both sides are then reset and the
+//! same frame is called again, so that the Rust judges it too. The last two words of every record left are compared with the model.
 
 use std::thread;
 
+use oracle::clock::StateBytes;
 use oracle::frame_vectors::random_state;
 use oracle::host_calls;
 use oracle::random::Random;
-use oracle::records::{write_state, OutBytes, StateBytes, FLAGS};
-use oracle::scenes::{fling_list, scene_list};
+use oracle::records::{OutBytes, FLAGS};
+use oracle::scenes::{flings_with_resets, scenes_with_resets, Played};
 
+use crate::resets;
 use crate::tables::{name_of, Lent, Pool, Serving};
 use crate::tally::{Part, Tally};
 
-/// Frames in one list of scenes.
+/// Frames and resets in one list of scenes.
 pub const LIST: usize = 20_000;
 
 /// What a buffer holds that no call has written.
@@ -51,6 +58,7 @@ impl Side {
         self
     }
 
+    /// The Rust, and the model of the clock around it.
     fn rust(mut self, frame: &[u8], table: Option<&Lent>) -> Side {
         let (state, out) = (&mut self.state, &mut self.out);
         self.refusal = match table {
@@ -69,15 +77,15 @@ pub fn made<A: Send + 'static>(list: impl FnOnce() -> Vec<A> + Send + 'static) -
 }
 
 /// A list of scenes.
-pub fn scenes(seed: u64, count: usize) -> Vec<Vec<u8>> {
-    made(move || scene_list(seed, count))
+pub fn scenes(seed: u64, count: usize) -> Vec<Played> {
+    made(move || scenes_with_resets(seed, count))
 }
 
 /// A list of scenes; under tables every other one is of flings, where they show.
-fn list_for(pool: Option<&Pool>, seed: u64, count: usize) -> Vec<Vec<u8>> {
+fn list_for(pool: Option<&Pool>, seed: u64, count: usize) -> Vec<Played> {
     let is_even = (seed / LIST as u64).is_multiple_of(2);
     match pool {
-        Some(_) if is_even => made(move || fling_list(seed, count)),
+        Some(_) if is_even => made(move || flings_with_resets(seed, count)),
         _ => scenes(seed, count),
     }
 }
@@ -91,11 +99,15 @@ pub fn from_fresh_states(tally: &mut Tally, pool: Option<&Pool>, seed: u64, coun
         let list_seed = seed.wrapping_add(done);
         let list = list_for(pool, list_seed, LIST.min((count - done) as usize));
         let mut state = fresh_state(tally, part);
-        for (number, frame) in list.iter().enumerate() {
-            let rust = compare(tally, part, state, frame, serving.next(), || {
-                format!("list of seed {list_seed}, frame {number}")
-            });
-            state = rust.state;
+        for (number, played) in list.iter().enumerate() {
+            let what = || format!("list of seed {list_seed}, place {number}");
+            state = match played {
+                Played::Frame(frame) => {
+                    compare(tally, part, state, frame, serving.next(), what).state
+                }
+                // Also the one that follows on 12, ahead of the same frame.
+                Played::Reset => resets::compare(tally, state, what),
+            };
         }
         done += list.len() as u64;
         tally.progress(part.name(), done, count);
@@ -104,7 +116,7 @@ pub fn from_fresh_states(tally: &mut Tally, pool: Option<&Pool>, seed: u64, coun
 
 /// The oracle's, compared with the library's.
 fn fresh_state(tally: &mut Tally, part: Part) -> StateBytes {
-    let (mut fresh, mut rust_fresh) = ([UNWRITTEN; 148], [UNWRITTEN; 148]);
+    let (mut fresh, mut rust_fresh) = ([UNWRITTEN; 156], [UNWRITTEN; 156]);
     strakobud::fresh(&mut fresh);
     host_calls::fresh(&mut rust_fresh);
     tally.count(part, 0, fresh == rust_fresh, || {
@@ -113,7 +125,37 @@ fn fresh_state(tally: &mut Tally, part: Part) -> StateBytes {
     rust_fresh
 }
 
-/// Each frame on a state of its own, at times one with a number that is not finite or a damaged flag.
+/// A flag outside its values, or another byte in one.
+pub fn damage(random: &mut Random, state: &mut StateBytes) {
+    let flag = FLAGS[random.below(FLAGS.len())];
+    state[4 * flag + random.below(4)] = 1 + random.below(255) as u8;
+}
+
+/// A state for that frame, at times one with a number that is not finite or a damaged flag.
+fn arbitrary_state(random: &mut Random, frame: &[u8]) -> StateBytes {
+    let mut state = [UNWRITTEN; 156];
+    random_state(random, frame).write(&mut state);
+    if random.below(64) == 0 {
+        damage(random, &mut state);
+    }
+    state
+}
+
+/// The frames of a list, at times with another length.
+fn frames_of(random: &mut Random, list: Vec<Played>) -> Vec<Vec<u8>> {
+    let frame = |played| match played {
+        Played::Reset => None,
+        Played::Frame(mut bytes) => {
+            if random.below(64) == 0 {
+                bytes.resize(400 + random.below(32), 0);
+            }
+            Some(bytes)
+        }
+    };
+    list.into_iter().filter_map(frame).collect()
+}
+
+/// Each frame on a state of its own.
 pub fn from_arbitrary_states(tally: &mut Tally, pool: Option<&Pool>, seed: u64, count: u64) {
     let part = pool.map_or(Part::Arbitrary, |_| Part::ArbitraryUnder);
     let mut serving = Serving::new(pool, !seed);
@@ -121,18 +163,18 @@ pub fn from_arbitrary_states(tally: &mut Tally, pool: Option<&Pool>, seed: u64, 
     let mut done = 0;
     while done < count {
         let list = list_for(pool, random.long(), LIST.min((count - done) as usize));
-        for frame in &list {
-            let mut state = [UNWRITTEN; 148];
-            write_state(&random_state(&mut random), &mut state);
-            if random.below(64) == 0 {
-                let flag = FLAGS[random.below(FLAGS.len())];
-                state[4 * flag + random.below(4)] = 1 + random.below(255) as u8;
+        for frame in &frames_of(&mut random, list) {
+            let state = arbitrary_state(&mut random, frame);
+            let table = serving.next();
+            let what = |state| move || format!("{state:02x?} {frame:02x?}");
+            let rust = compare(tally, part, state, frame, table, what(state));
+            // 6 may have been the remembered time's.
+            if [6, 12].contains(&rust.refusal) && random.below(2) == 0 {
+                let state = resets::compare(tally, state, what(state));
+                compare(tally, part, state, frame, table, what(state));
             }
-            compare(tally, part, state, frame, serving.next(), || {
-                format!("{state:02x?} {frame:02x?}")
-            });
+            done += 1;
         }
-        done += list.len() as u64;
         tally.progress(part.name(), done, count);
     }
 }

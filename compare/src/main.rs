@@ -1,13 +1,18 @@
 //! Runs the library and the oracle on the same bytes, in one process, and compares every byte left.
 //!
-//! `compare SEED FRAMES STATES CALLS UNDER RUNS`: frames of scenes from fresh states, frames on arbitrary states, axis calls and, that often
-//! too, bad words; then, each that often, frames of both kinds and steps under tables and with T lent, and a tenth as many loads; then settling
-//! runs, each by T, with T lent and under tables. It fails where the two sides differ, where the runs leave out an end or a ground that a run
-//! can have, and where the bad words leave out a number that is kept first or one that lowers it.
+//! `compare SEED FRAMES STATES CALLS UNDER RUNS`: frames and resets of scenes from fresh states, frames on arbitrary states, axis calls and,
+//! that often too, bad words and resets of arbitrary records; then, each that often, frames of both kinds and steps under tables and with T
+//! lent, and a tenth as many loads; then settling runs, each by T, with T lent and under tables. It fails where the two sides differ, where
+//! the frames on states leave out a branch of the clock, where the runs leave out an end or a ground that a run can have, and where the bad
+//! words leave out a number that is kept first or one that lowers it.
+//!
+//! The remembered time and the frames refused with 12 are left out of what the Rust is compared on, as `frames` says: they are compared with
+//! the oracle's model of the clock.
 
 mod bad_words;
 mod calls;
 mod frames;
+mod resets;
 mod runs;
 mod t_lent;
 mod tables;
@@ -16,7 +21,7 @@ mod tally;
 use std::{env, process};
 
 use tables::Pool;
-use tally::{has_every_branch_of_bad_words, Tally};
+use tally::{has_every_branch_of_bad_words, has_every_branch_of_clock, Tally};
 
 fn main() {
     let arguments: Vec<String> = env::args().skip(1).collect();
@@ -30,6 +35,7 @@ fn main() {
     frames::from_arbitrary_states(&mut tally, None, *seed, *states);
     calls::axis_calls(&mut tally, *seed, *calls);
     bad_words::of_frames(&mut tally, *seed, *calls);
+    resets::of_records(&mut tally, *seed, *calls);
     let pool = Pool::new(&mut tally, *seed);
     under_tables(&mut tally, &pool, *seed, *under);
     runs::by_t(&mut tally, &pool.t, *seed, *runs);
@@ -37,7 +43,9 @@ fn main() {
     tally.print();
     let are_runs_whole = *runs == 0 || tally.has_every_end_of_runs();
     let are_bad_words_whole = *calls == 0 || has_every_branch_of_bad_words();
-    let is_good = tally.different == 0 && are_runs_whole && are_bad_words_whole;
+    let is_clock_whole = *states == 0 || has_every_branch_of_clock();
+    let are_whole = are_runs_whole && are_bad_words_whole && is_clock_whole;
+    let is_good = tally.different == 0 && are_whole;
     process::exit(i32::from(!is_good));
 }
 

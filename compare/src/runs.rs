@@ -37,6 +37,8 @@ fn end(given: &Run, left: &Left) -> End {
         0 if used < given.limit() => End::Rests,
         0 => End::AtLimit,
         refusal if used == 0 => End::FirstRefused(refusal),
+        // No time of a run is before the one that its frame before left.
+        12 => panic!("12 inside {}", in_words(given)),
         refusal => End::LaterRefused(refusal),
     }
 }

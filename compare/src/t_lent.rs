@@ -1,5 +1,7 @@
 //! T lent against the calls without a table, the library against itself.
 
+use oracle::scenes::Played;
+
 use crate::calls::step_lists;
 use crate::frames::{scenes, Side, LIST};
 use crate::tables::Lent;
@@ -11,13 +13,17 @@ pub fn frames(tally: &mut Tally, t: &Lent, seed: u64, count: u64) {
     while done < count {
         let list_seed = seed.wrapping_add(done);
         let list = scenes(list_seed, LIST.min((count - done) as usize));
-        let mut state = [0; 148];
+        let mut state = [0; 156];
         strakobud::fresh(&mut state);
-        for (number, frame) in list.iter().enumerate() {
+        for (number, played) in list.iter().enumerate() {
+            let Played::Frame(frame) = played else {
+                strakobud::reset(&mut state);
+                continue;
+            };
             let none = Side::on(state).library(frame, None);
             let lent = Side::on(state).library(frame, Some(t));
             tally.count(Part::TLent, none.refusal, lent == none, || {
-                let place = format!("list of seed {list_seed}, frame {number}");
+                let place = format!("list of seed {list_seed}, place {number}");
                 format!("{place}: T lent {lent:02x?}, none {none:02x?}")
             });
             state = none.state;

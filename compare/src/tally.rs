@@ -69,7 +69,7 @@ impl Display for End {
 }
 
 /// The ends that every kind of comparison of runs has to meet.
-const OF_RUNS: [End; 12] = [
+const OF_RUNS: [End; 13] = [
     End::Answered(1),
     End::Answered(2),
     End::Answered(3),
@@ -80,6 +80,7 @@ const OF_RUNS: [End; 12] = [
     End::Rests,
     End::AtLimit,
     End::FirstRefused(8),
+    End::FirstRefused(12),
     End::LaterRefused(3),
     End::LaterRefused(8),
 ];
@@ -91,6 +92,7 @@ pub enum Part {
     Arbitrary,
     Axis,
     BadWords,
+    Resets,
     Loads,
     FreshUnder,
     ArbitraryUnder,
@@ -102,11 +104,12 @@ pub enum Part {
 }
 
 impl Part {
-    const ALL: [Part; 12] = [
+    const ALL: [Part; 13] = [
         Part::Fresh,
         Part::Arbitrary,
         Part::Axis,
         Part::BadWords,
+        Part::Resets,
         Part::Loads,
         Part::FreshUnder,
         Part::ArbitraryUnder,
@@ -123,6 +126,7 @@ impl Part {
             Part::Arbitrary => "frames on arbitrary states",
             Part::Axis => "axis calls",
             Part::BadWords => "bad words of frames by themselves, and of runs",
+            Part::Resets => "resets, among frames and of arbitrary records",
             Part::Loads => "loads of tables",
             Part::FreshUnder => "frames from fresh states, under tables",
             Part::ArbitraryUnder => "frames on arbitrary states, under tables",
@@ -198,6 +202,11 @@ impl Tally {
 /// Whether each of 2 to 5 was kept first and to the end, and lowered by each below it; says which is missing.
 pub fn has_every_branch_of_bad_words() -> bool {
     are_none(&unmet_of(branches::OF_BAD_WORDS))
+}
+
+/// Whether 12 was met in each order with the other numbers, and every kind of remembered time; says which is missing.
+pub fn has_every_branch_of_clock() -> bool {
+    are_none(&unmet_of(branches::OF_CLOCK))
 }
 
 /// Those of the branches that were not met, in words.

@@ -3,7 +3,7 @@
 fn main() {
     let mut table = [0; 8200];
     strakobud::table_t(&mut table);
-    bench::drive(strakobud::fresh, |state, frame, out| {
+    bench::drive(strakobud::fresh, strakobud::reset, |state, frame, out| {
         strakobud::frame_by(state, frame, &table, out)
     });
 }

@@ -1,5 +1,5 @@
 //! The library.
 
 fn main() {
-    bench::drive(strakobud::fresh, strakobud::frame);
+    bench::drive(strakobud::fresh, strakobud::reset, strakobud::frame);
 }

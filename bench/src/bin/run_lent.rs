@@ -3,7 +3,7 @@
 fn main() {
     let mut table = [0; 8200];
     strakobud::table_t(&mut table);
-    bench::drive(strakobud::fresh, |state, frame, _| {
+    bench::drive(strakobud::fresh, strakobud::reset, |state, frame, _| {
         bench::run(|run, used| strakobud::settle_by(state, frame, &table, run, used))
     });
 }

@@ -1,5 +1,7 @@
 //! The Rust under the documents' stand-ins, on the same records.
 
+use oracle::host_calls::{frame, fresh, reset};
+
 fn main() {
-    bench::drive(oracle::host_calls::fresh, oracle::host_calls::frame);
+    bench::drive(fresh, reset, frame);
 }

@@ -97,7 +97,7 @@ fn settle(state: &mut strakobud::StateBytes, frame: &Frame) {
 }
 
 fn main() {
-    let (mut state, mut out) = ([0; 148], [0; 100]);
+    let (mut state, mut out) = ([0; 156], [0; 100]);
     strakobud::fresh(&mut state);
     let mut run = |what: &str, frame: &[u8]| {
         let refusal = strakobud::frame(&mut state, frame, &mut out);
