@@ -2,12 +2,11 @@
 
 use oracle::clock::{Remembering, StateBytes};
 use oracle::frame_call::{frame_call, rust_call};
-use oracle::frame_vectors::{bare, full, random_state, Frame};
+use oracle::frame_vectors::{bare, full, Frame};
 use oracle::host_calls;
 use oracle::random::Random;
 use oracle::records::FLAGS;
 use oracle::run_vectors::lists::{list, moving, paced, pressed, NOW, SCREEN};
-use oracle::scenes::{flings_with_resets, scenes_with_resets, Played};
 use oracle::words::{from_bytes, in_bytes};
 
 const UNWRITTEN: u8 = 0xaa;
@@ -204,72 +203,5 @@ fn a_fresh_record_remembers_0() {
     for frame in [bare(), full(), list()] {
         let mut kept = Remembering::read(&state).expect("a good record");
         assert_eq!(kept.frame(&at(frame, 0.0)).refusal, 0);
-    }
-}
-
-/// Mostly states that the frame is not before; each kind of remembered time is met.
-#[test]
-fn random_states_remember_every_kind_of_time() {
-    let (mut random, frame) = (Random::new(3), at(list(), NOW));
-    let times: Vec<f64> = (0..4000)
-        .map(|_| random_state(&mut random, &frame).time)
-        .collect();
-    let count = |test: fn(f64) -> bool| times.iter().filter(|time| test(**time)).count();
-    assert!(count(|time| NOW < time) >= 200);
-    assert!(count(|time| time <= NOW) >= 3000);
-    assert!(count(|time| time == NOW) >= 200);
-    assert!(count(|time| time == NOW.next_up()) >= 50);
-    assert!(count(|time| time == NOW.next_down()) >= 50);
-    assert!(count(|time| time < 0.0) >= 50);
-    assert!(count(|time| time.to_bits() == 1 << 63) >= 20);
-    assert!(count(|time| !time.is_finite()) >= 100);
-}
-
-/// After half of the frames refused with 12 there is a reset and the same frame, which is not refused with 12 then.
-#[test]
-fn lists_with_resets_send_refused_frames_again() {
-    for list in [scenes_with_resets(1, 20_000), flings_with_resets(1, 20_000)] {
-        let mut kept = Remembering::default();
-        let (mut met, mut again, mut accepted) = (0, 0, 0);
-        for (place, played) in list.iter().enumerate() {
-            let Played::Frame(bytes) = played else {
-                kept.reset();
-                continue;
-            };
-            let refusal = kept.frame(bytes).refusal;
-            accepted += u32::from(refusal == 0);
-            if refusal == 12 {
-                met += 1;
-                let next = list.get(place + 1..place + 3);
-                again += u32::from(next == Some(&[Played::Reset, played.clone()]));
-            }
-        }
-        assert_eq!(list.len(), 20_000);
-        assert!(met >= 500 && accepted >= 16_000, "{met} {accepted}");
-        assert!(
-            (3 * met..7 * met).contains(&(10 * again)),
-            "{again} of {met}"
-        );
-    }
-}
-
-#[cfg(feature = "branches")]
-#[test]
-fn every_branch_of_the_clock_is_met() {
-    use oracle::branches::{count_of, OF_CLOCK};
-    let (mut random, mut kept) = (Random::new(2), Remembering::default());
-    for played in scenes_with_resets(2, 20_000) {
-        match played {
-            Played::Frame(mut bytes) => {
-                kept.frame(&bytes);
-                let state = random_state(&mut random, &bytes);
-                bytes.truncate([416, 415][random.below(2)]);
-                state.refusal_of(&bytes);
-            }
-            Played::Reset => kept.reset(),
-        }
-    }
-    for (branch, words) in OF_CLOCK {
-        assert!(count_of(*branch) >= 10, "{words}: {}", count_of(*branch));
     }
 }

@@ -1,4 +1,4 @@
-//! Writes frames and states for checks 1 to 6, and the answers that document 01 gives them; counts the refusals.
+//! Writes frames and states for checks 1 to 6 and 12, and the answers that the documents give them; counts the refusals.
 //!
 //! `frame_vectors INPUT OUTPUT` writes the fixed list, `frame_vectors INPUT OUTPUT SEED COUNT` a random one.
 

@@ -1,4 +1,5 @@
-//! Writes settling runs and the loads of their tables, and the answers that the documents give them; counts the refusals.
+//! Writes settling runs and the loads of their tables, and frames and resets on a record that is kept, and the answers that the documents
+//! give them; counts the refusals.
 //!
 //! `run_vectors INPUT OUTPUT` writes the fixed list, `run_vectors INPUT OUTPUT SEED COUNT` a random one.
 
