@@ -1,7 +1,8 @@
 //! Document 02's K5, "The clock may not run backwards": the time that a state remembers. The Rust knows nothing of it.
 //!
-//! The Rust is handed egui's state alone, which is the first 37 words of a record, and no frame that 12 refuses. What is here is therefore
-//! written from the document alone: in a comparison with the Rust the remembered time and the frames refused with 12 are left out.
+//! The Rust is handed egui's state alone, which is the first 37 words of a record, and no frame that 12 refuses: document 02's "comparison
+//! with the oracle leaves out the remembered time and frames refused with 12". The other two words of a record and 12 itself are held to what
+//! is written here, from the document alone; after a reset the Rust judges the same frame.
 
 use crate::branches::{met, met_by, met_if, Branch};
 use crate::frame_call::{rust_call, Output};
@@ -142,10 +143,14 @@ pub fn run(bytes: &[u8]) -> impl Iterator<Item = (Remembering, Output)> + '_ {
     })
 }
 
-/// Counts a number from 1 to 6 that goes before 12 where both apply; a frame that ends before its time has none.
+/// The time of a frame of any length; one that ends before words 52 and 53 do has none.
+pub fn time_of(frame: &[u8]) -> Option<f64> {
+    (4 * 53 <= frame.len()).then(|| time(frame))
+}
+
+/// Counts a number from 1 to 6 that goes before 12 where both apply.
 fn met_before_12(kept: &Remembering, frame: &[u8], refusal: u32) {
-    let has_time = 4 * 53 <= frame.len();
-    if has_time && kept.is_ahead_of(frame) {
+    if time_of(frame).is_some_and(|time| time < kept.time) {
         met(BEFORE_12[refusal as usize - 1]);
     }
 }

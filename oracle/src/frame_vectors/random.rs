@@ -5,8 +5,7 @@ use super::places::OPTIONS;
 use super::random_words::{mutated, number};
 use super::states::{doubles, flags, singles, stored};
 use super::{Call, Frame, STORED};
-use crate::clock::Remembering;
-use crate::frame_checks::time;
+use crate::clock::{time_of, Remembering};
 use crate::frame_state::State;
 use crate::random::Random;
 
@@ -61,7 +60,7 @@ pub fn random_state(random: &mut Random, frame: &[u8]) -> Remembering {
 
 /// Mostly a time at or before the frame's, in a few cases a later one, or none that a frame can have.
 fn remembered(random: &mut Random, frame: &[u8]) -> f64 {
-    let now = if frame.len() < 212 { 0.0 } else { time(frame) };
+    let now = time_of(frame).unwrap_or(0.0);
     let [before, after] = [now.next_down(), now.next_up()];
     match random.below(32) {
         0 => [f64::NAN, f64::INFINITY, f64::NEG_INFINITY][random.below(3)],

@@ -51,6 +51,7 @@ pub fn fixed_runs() -> Vec<Run> {
     runs.extend(absent_options());
     runs.extend(absent_options_at_every_end());
     runs.extend(not_a_numbers());
+    runs.extend(damaged_before_12());
     runs
 }
 

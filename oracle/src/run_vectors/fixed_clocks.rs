@@ -3,7 +3,7 @@
 use super::fixed_inside::first_frames_refused;
 use super::fixed_refusals::slips;
 use super::lists::{list, moving, paced, restless, with_band, NOW, SCREEN};
-use super::Call;
+use super::{Call, Run};
 use crate::clock::Remembering;
 use crate::frame_checks::LATEST;
 use crate::words::NAN;
@@ -18,6 +18,17 @@ fn remembering(call: Call, time: f64) -> Call {
 
 fn short() -> Call {
     paced(moving(150.0, 90.0), list(), 3)
+}
+
+/// A short run whose frame is before the remembered time.
+pub fn set_back() -> Call {
+    remembering(short(), LATER)
+}
+
+/// The same on records with a damaged flag, which goes before 12.
+pub fn damaged_before_12() -> Vec<Run> {
+    let damaged = |flag| Run::of(&set_back()).with(flag, 2);
+    [4, 24, 36].map(damaged).into()
 }
 
 /// Around the first frame's time, and what is not finite.

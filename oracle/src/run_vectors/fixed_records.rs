@@ -1,5 +1,6 @@
 //! Runs on records that no state gives: flags outside their values, words of absent options, other not-a-numbers than one.
 
+use super::fixed_clocks::set_back;
 use super::fixed_inside::{first_frames_refused, past_the_last_time, second_frames_refused};
 use super::fixed_refusals::slips;
 use super::lists::{list, moving, on_its_way, paced, NOW};
@@ -92,6 +93,7 @@ pub fn absent_options_at_every_end() -> Vec<Run> {
         paced(moving(150.0, INF), list(), 3),
     ];
     calls.extend(refused_at_9());
+    calls.push(set_back());
     calls.extend(first_frames_refused());
     calls.extend(second_frames_refused());
     let late = past_the_last_time().into_iter();
