@@ -4,7 +4,7 @@ use mathlib.Core.Bool.{Bool, true, false, cond}
 use mathlib.Core.List.{List, [], _∷_, _++_}
 use Prim.Native.Nat.{ℕ, _/_}
 use lib.Dec.{ltb}
-use lib.ListN.{getD, drop}
+use lib.ListN.{length, getD, drop}
 use lib.Ieee.{Float, nan}
 use Rattle.frames.specs.Line.{digitsOf, flagOf, digitOf, decimalOf, lineOf, wideLineOf}
 
@@ -20,6 +20,10 @@ wide-line-is refusal offset vel stuck f g a b c d p q hf hg ha hb hc hd hp hq = 
 
 -- where the refusal has one digit the line begins behind the first
 module _ (refusal : ℕ) (offset vel : List Float) (stuck : List Bool) (bytes : List ℕ) (is : bytes ≡ wideLineOf refusal offset vel stuck) where
+  pub long : length bytes ≡ 42
+  unfolding wideLineOf digitsOf
+  long = ap length is
+
   pub one-digit : ltb refusal 10 ≡ true → drop 1 bytes ≡ lineOf refusal offset vel stuck
   unfolding wideLineOf lineOf decimalOf
   one-digit h = ap (drop 1) is ∙ rw h

@@ -1,7 +1,7 @@
 // A line of the listing, a function of its numbers alone.
 ghost use mathlib.Core.Path.{_≡_};
 ghost use Prim.Native.Nat.{_≤_};
-ghost use lib.ListN.{drop};
+ghost use lib.ListN.{length, drop};
 ghost use Rattle.frames.specs.Line as Spec;
 
 // The line stands from `start` on: behind the first digit where the refusal has one alone.
@@ -13,7 +13,7 @@ pub struct Line {
 // The refusal or 0, offset x and y and velocity x and y as the digits of their bits, and the stuck flags.
 pub fn line_of(refusal: u32, offset: [f32; 2], vel: [f32; 2], stuck: [bool; 2]) -> Line
     ensures is_line { λ r. ⌜ drop (r .start) (r .bytes) ≡ Spec.lineOf refusal offset vel stuck ⌝ }
-    ensures starts { λ r. ⌜ r .start ≤ 1 ⌝ }
+    ensures starts { λ r. ⌜ (r .start ≤ 1) × (length (r .bytes) ≡ 42) ⌝ }
 {
     let bytes = wide_line(refusal, offset, vel, stuck);
     let short = refusal < 10;

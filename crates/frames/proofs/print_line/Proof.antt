@@ -7,13 +7,13 @@ line-of-requires : tie.Need-line-of-requires
 line-of-requires c κs = search needs
 
 sub-write-all : tie.Need-sub-write-all
-sub-write-all c = search needs
+sub-write-all c = omega (arith, c .before .line-of .ensures .1 .0)
 
 part-write-all-start : tie.Need-part-write-all-start
-part-write-all-start c = search needs
+part-write-all-start c = omega (arith, c .before .before .line-of .ensures .1 .0)
 
 part-write-all-end : tie.Need-part-write-all-end
-part-write-all-end c = omega (arith, c .before .line-of .ensures .1)
+part-write-all-end c = omega (arith, c .before .before .line-of .ensures .1 .1)
 
 write-all-requires : tie.Need-write-all-requires
 write-all-requires c κs = search needs
