@@ -183,7 +183,6 @@ same (settled {s} {frame} {table} {run} {used} {r} {calls} {answers} {t} are len
       state-same = subst (λ (S : State). ReachedOn S calls t) (o .stands) (rest .state-same) ∙ sym (state-after (stateOf s) frames _);
       is-record = rest .is-record;
     }
-
 same (cleared {s} {r} {calls} {answers} {t} says run) is =
     let o = reset-of s is in
     let stands = ap stateOf says ∙ o .stands in

@@ -1,7 +1,7 @@
 // Runs stored loads of tables and calls under them, and prints each with its answer. A record on standard input begins
-// with a word: 1 for a load, 2 for an exp, 3 for a step, 4 for a frame; the file of that name says what follows. A table
-// that loads serves from then on, and T at first and after one that is refused. Any other word, or a record cut short, ends
-// the run. What is printed is held to the answers of an independent program (oracle/).
+// with a word: 1 for a load, 2 for an exp, 3 for a step, 4 for a frame, 5 for a reset; the file of that name says what
+// follows, and a reset stands beside the frame. A table that loads serves from then on, and T at first and after one that is
+// refused. Any other word, or a record cut short, ends the run. What is printed is held to the answers of an independent program (oracle/).
 mod exp;
 mod frame;
 mod line;
@@ -11,6 +11,7 @@ mod turn;
 
 use exp::replay_exp;
 use frame::replay_frame;
+use frame::replay_reset;
 use libc::STDIN_FILENO;
 use load::replay_load;
 use step::replay_step;
@@ -42,6 +43,7 @@ fn replay_call(kind: u32, turn: Turn, table: &[u8]) -> Turn {
         2 => turn.after(replay_exp(table)),
         3 => turn.after(replay_step(table)),
         4 => replay_frame(turn, table),
+        5 => replay_reset(turn),
         _ => turn.after(false),
     }
 }
