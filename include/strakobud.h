@@ -21,9 +21,11 @@
  *   6  the state holds a number that is not finite, or a flag that is not 0 or 1
  *   7  a press beside a handle for which the bar has no room
  *   8  a number among the outputs is not finite
- * The lowest that applies is answered; 7 goes before 8. A word inside an option whose flag is 0 is not looked at.
+ *  12  the frame's time is less than that of the last accepted frame, which the state remembers
+ * The lowest that applies is answered, but that 12 goes before 7; so 1 to 6, 12, 7, 8. A word inside an option whose
+ * flag is 0 is not looked at.
  *
- * And of a settling run, after 6 and ahead of its first frame:
+ * And of a settling run, after 6 and before 12, ahead of its first frame:
  *   9  the limit is 0 or above 10,000, the increment is not from 0 to 1, or the frame moves an axis by hand or program: a
  *      flag in words 15, 17, 61, 62, 74, 79, 91 or 98 is 1, or a number in words 64, 65, 86 or 87 is not 0, heeded or not
  *
@@ -41,6 +43,8 @@
  *   shown. Run the same frame again without its input, that is with 0 in words 15, 17, 54, 57 to 62, 64, 65, 74, 79, 86,
  *   87, 91 and 98. Nothing in it moves the list, and where it is accepted, with stick_to_end set, a list that stuck
  *   stands on its end.
+ * - After 12 the clock has run backwards, and until the old time comes again every frame is refused, the one without
+ *   input too. Either go on with a time that does not fall, or call strakobud_reset and run the frame again.
  */
 #ifndef STRAKOBUD_H
 #define STRAKOBUD_H
@@ -52,19 +56,26 @@
 extern "C" {
 #endif
 
-#define STRAKOBUD_STATE_BYTES 148
+#define STRAKOBUD_STATE_BYTES 156
 #define STRAKOBUD_FRAME_BYTES 416
 #define STRAKOBUD_OUT_BYTES 100
 #define STRAKOBUD_TABLE_BYTES 8200
 #define STRAKOBUD_RUN_BYTES 12
 #define STRAKOBUD_USED_BYTES 4
 
-/* Writes a fresh state: at the start, at rest, stuck to the end.
+/* Writes a fresh state: at the start, at rest, stuck to the end, with time 0.
  *
- * The 37 words of a state: offset 2, max_offset 2; for each axis its scroll target under way as flag, start 2, end 2,
+ * The 39 words of a state: offset 2, max_offset 2; for each axis its scroll target under way as flag, start 2, end 2,
  * goal; show_scroll 2, content_is_too_large 2, scroll_bar_interaction 2, velocity 2; for each axis the bar's press as
- * flag and number; stuck to end 2, interact_rect as flag and 4, bounced_this_momentum 2. */
+ * flag and number; stuck to end 2, interact_rect as flag and 4, bounced_this_momentum 2; and the time of the last accepted
+ * frame 2. */
 void strakobud_fresh(uint8_t state[STRAKOBUD_STATE_BYTES]);
+
+/* For a clock that was set back: the remembered time becomes 0, so that a frame of any time is accepted again. It writes
+ * words 38 and 39 and nothing else, and is never refused, also on a state that 6 refuses. A scroll target under way keeps
+ * its start and end on the old clock: before that start it stands, and a drag, a taken wheel turn or a press on the bar
+ * gives it up. */
+void strakobud_reset(uint8_t state[STRAKOBUD_STATE_BYTES]);
 
 /* Runs one frame on the state. 0: the state is the next one, and out holds what the frame puts out besides it.
  * A refusal: neither buffer is changed.
@@ -90,8 +101,8 @@ uint32_t strakobud_frame(uint8_t state[STRAKOBUD_STATE_BYTES], const uint8_t *fr
 /* Which word made a frame bad. Checks 2 to 5 go over the words once, in order, and keep the lowest number that the words so
  * far show; this is the number of the first word, from 1 to 104, after which that is the frame's refusal, and the word
  * itself shows it. An end below its start is at the end's word, a time outside its range at word 53. 0 where 2 to 5 do not
- * refuse the frame: it passes them, or is not 416 bytes long. The state is not asked, and 6 to 9 have no word; nor has a 3
- * from inside a settling run, which is about the run's own time. */
+ * refuse the frame: it passes them, or is not 416 bytes long. The state is not asked, and 6 to 9 and 12 have no word; nor
+ * has a 3 from inside a settling run, which is about the run's own time. */
 uint32_t strakobud_bad_word(const uint8_t *frame, size_t len);
 
 /* A maker's own decay table: 1,025 numbers of 64 bits, the lowest byte first, by which a coasting list slows in the place
@@ -113,9 +124,10 @@ uint32_t strakobud_frame_by(uint8_t state[STRAKOBUD_STATE_BYTES], const uint8_t 
  *
  * 1 to 6 or 9 ahead of the first frame: neither buffer is changed. After that used holds the frames used, in one word,
  * and the state is the one after them, also where a frame inside was refused and ended the run with its number: 8, or 3
- * once the time is above 2^32, and no other. If that was the first one, with 8, 0 are used and the state is as given. With
- * used set to 0 before the call it is right after every answer. 0 with used below the limit: the list rests; with used
- * equal to the limit it may or may not. A frame that was cleared of its input, as above, moves no axis.
+ * once the time is above 2^32, or 12, at the first frame alone, and no other. If that was the first one, with 8 or 12, 0 are
+ * used and the state is as given. With used set to 0 before the call it is right after every answer. 0 with used below the
+ * limit: the list rests; with used equal to the limit it may or may not. A frame that was cleared of its input, as above,
+ * moves no axis. The state remembers the time of the run's last frame, below which the next call's may not lie.
  *
  * Rest is not stillness. A held overscroll rests with the velocity that it keeps. With rubber band off, a list that has
  * run into its end stands there, and rests in the next frame if its bar shows (its factor is not 0), else once its

@@ -1,6 +1,6 @@
 /* A list of events on a panel: rows arrive and the list stays on its last entry. A row that arrives with a touch sample that
  * is not a number is refused with it, and shown once the frame is run again without its input. Then a table for the decay is
- * loaded and serves; and somebody flicks the list, which coasts until it rests. */
+ * loaded and serves; somebody flicks the list, which coasts until it rests; and the clock is set back. */
 #include <inttypes.h>
 #include <math.h>
 #include <stdio.h>
@@ -124,6 +124,15 @@ static void settle(uint8_t *state, const uint8_t *frame)
     show(what, refusal, state);
 }
 
+/* The run has moved the time on; the next frame is at 0 again. */
+static void set_back(uint8_t *state, const uint8_t *frame)
+{
+    uint8_t out[STRAKOBUD_OUT_BYTES];
+    show("the clock set back", strakobud_frame(state, frame, STRAKOBUD_FRAME_BYTES, out), state);
+    strakobud_reset(state);
+    show("after a reset", strakobud_frame(state, frame, STRAKOBUD_FRAME_BYTES, out), state);
+}
+
 int main(void)
 {
     uint8_t state[STRAKOBUD_STATE_BYTES], frame[STRAKOBUD_FRAME_BYTES], out[STRAKOBUD_OUT_BYTES];
@@ -152,5 +161,6 @@ int main(void)
 
     flick(state, frame);
     settle(state, frame);
+    set_back(state, frame);
     return 0;
 }

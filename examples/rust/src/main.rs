@@ -1,6 +1,7 @@
 //! A list of events on a panel: rows arrive and the list stays on its last entry. A row that arrives with a touch sample that is
 //! not a number is refused with it, and shown once the frame is run again without its input. Then a table for the decay is loaded
-//! and serves; and somebody flicks the list, which coasts until it rests. Words are numbered from 1, as in include/strakobud.h.
+//! and serves; somebody flicks the list, which coasts until it rests; and the clock is set back. Words are numbered from 1, as in
+//! include/strakobud.h.
 
 struct Frame([u8; 416]);
 
@@ -96,6 +97,16 @@ fn settle(state: &mut strakobud::StateBytes, frame: &Frame) {
     show(&format!("{used} frames{rests}"), refusal, state);
 }
 
+/// The run has moved the time on; the next frame is at 0 again.
+fn set_back(state: &mut strakobud::StateBytes, frame: &Frame) {
+    let mut out = [0; 100];
+    let refusal = strakobud::frame(state, &frame.0, &mut out);
+    show("the clock set back", refusal, state);
+    strakobud::reset(state);
+    let refusal = strakobud::frame(state, &frame.0, &mut out);
+    show("after a reset", refusal, state);
+}
+
 fn main() {
     let (mut state, mut out) = ([0; 156], [0; 100]);
     strakobud::fresh(&mut state);
@@ -126,4 +137,5 @@ fn main() {
 
     flick(&mut state, &mut frame);
     settle(&mut state, &frame);
+    set_back(&mut state, &frame);
 }
