@@ -1,6 +1,5 @@
 -- Document 02, K5: "The clock may not run backwards." What the state remembers of it stands in State, and where a frame sets it in PutOut.
 use Prim.Native.Nat.{ℕ}
-use mathlib.Core.Path.{_≡_}
 use mathlib.Core.Bool.{Bool, cond}
 use mathlib.Core.List.{List}
 use lib.Ieee.{lt}

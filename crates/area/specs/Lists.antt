@@ -145,7 +145,7 @@ pub record DistancesAlong (S : State) (frames : List Fed) : Type 0 where
 
 -- ---- the clock, along the steps
 
--- "between resets the remembered time never falls": no frame leaves one that is less than the one it was given
+-- between resets the remembered time never falls: no frame leaves one that is less than the one it was given
 abbrev pub RisesAlong : State → List Fed → Type 0
 RisesAlong S [] = Unit {0}
 RisesAlong S (fedFrame table bytes ∷ rest) =
@@ -175,7 +175,7 @@ None12 S (fedReset ∷ rest) = None12 (resetOf S) rest
 
 pub record ClockAlong (S : State) (frames : List Fed) : Type 0 where
   pub rises : RisesAlong S frames
-  -- "A list without resets whose times do not fall is never refused with 12", and one with resets neither
+  -- a list whose times do not fall is never refused with 12, one without resets being the case
   pub never-12 : TimesRise frames → None12 S frames
 
 -- ---- the claim

@@ -1,5 +1,4 @@
 -- `State::default`, document 02's remembered time, and the offset readers.
-use Prim.Native.Nat.{ℕ}
 use mathlib.Core.Bool.{true, false}
 use mathlib.Core.List.{List, [], _∷_}
 use lib.Ieee.{Float, binary64, ofBits}

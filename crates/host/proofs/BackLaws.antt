@@ -8,7 +8,7 @@ use lib.Dec.{eqb, ltb, lit<}
 use lib.ListN.{getD}
 use lib.Ieee.{Float, binary32, binary64, ofBits, toBits}
 use lib.Ieee.Bits.{ofBits-toBits, toBits-lt}
-use Rattle.area.specs.Frame.{wordNo, numberNo, flagNo, timeNo, pairNo, flagsNo, pos2No, rectNo, maybeRectNo}
+use Rattle.area.specs.Frame.{wordNo, numberNo, flagNo, pairNo, flagsNo, pos2No, rectNo, maybeRectNo}
 use Rattle.area.specs.Pair.{flag}
 use Rattle.area.specs.State.{noTarget, noPress}
 use Rattle.area.specs.declared.state.State.{State}
@@ -19,7 +19,7 @@ use Rattle.area.specs.declared.state.StartOffset.{StartOffset}
 use Rattle.area.specs.declared.state.MaybeRect.{MaybeRect}
 use Rattle.host.specs.Record.{numberWord, flagWord, numberWords, flagWords, targetWords, pressWords, maybeRectWords, stateWords, recordOf}
 use Rattle.host.specs.Record.{maybeTargetNo, offsetTargetNo, maybePressNo, startOffsetNo, stateOf, isNoFlag, isDamaged}
-use Rattle.host.specs.Record.{Is32, Is64, ArePair, AreFlags, IsTarget, AreTargets, IsPress, ArePresses, IsRect, IsHeld}
+use Rattle.host.specs.Record.{Is32, ArePair, AreFlags, IsTarget, AreTargets, IsPress, ArePresses, IsRect, IsHeld}
 use Rattle.area.proofs.TimeLaws.{low-small, high-small, time-back}
 use Rattle.host.proofs.RecordLaws.{stateParts, state-right}
 use Rattle.host.proofs.ReadLaws.{start, partAt, Reads, reads}

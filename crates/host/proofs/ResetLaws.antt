@@ -1,7 +1,7 @@
 -- A reset on a record is the reset of its state. Assumes nothing.
 use mathlib.Core.Path.{_≡_, refl, sym, ap, _∙_}
-use mathlib.Core.List.{List, [], _∷_, _++_}
-use Prim.Native.Nat.{ℕ, _*_}
+use mathlib.Core.List.{List, _++_}
+use Prim.Native.Nat.{ℕ}
 use native.Mathlib.Omega.{arith}
 use lib.ListN.{length}
 use lib.Ieee.{Float, binary64}
@@ -12,7 +12,7 @@ use Rattle.area.specs.State.{noTime}
 use Rattle.area.specs.Frame.{timeWords}
 use Rattle.area.specs.Clock.{resetOf}
 use Rattle.area.specs.declared.state.State.{State}
-use Rattle.host.specs.Record.{stateWords, recordOf, stateOf, IsHeld}
+use Rattle.host.specs.Record.{recordOf, stateOf, IsHeld}
 use Rattle.host.specs.Calls.{resetOn}
 use Rattle.host.proofs.PartLaws.{wordsOf, bytes-append, words-append, put-after, total-is}
 use Rattle.host.proofs.RecordLaws.{fieldParts, timeParts, field-right, state-words}

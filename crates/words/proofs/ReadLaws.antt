@@ -4,7 +4,7 @@ use mathlib.Core.List.{List, [], _∷_}
 use Prim.Native.Nat.{ℕ, zero, suc, _+_, _*_, _/_, _%_, _<_, _≤_}
 use native.Mathlib.Nat.{div-add-mod, div-div-eq-div-mul, mod-eq-of-lt}
 use native.Mathlib.Omega.{arith}
-use lib.ListN.{length, take, drop, getD, List·getD-append}
+use lib.ListN.{length, take, getD, List·getD-append}
 use lib.Seq.{length-take-le, getD-append-add}
 use Rattle.words.specs.Words.{wordAt, bytesOf, putAt}
 use Rattle.words.proofs.KeptLaws.{length-bytes}
