@@ -5,11 +5,12 @@ use std::collections::BTreeSet;
 use oracle::answers::Answer;
 use oracle::run_vectors::{answers, fixed_list, random_list, Record};
 
-/// Each fresh state, frame and reset of a list, with its answer and the words of the record before and after it.
+/// Each fresh state, frame, reset and given record of a list, with its answer and the words of the record before and after it.
 fn steps(list: &[Record]) -> Vec<(Record, Answer, [Vec<u32>; 2])> {
     let mut before = vec![0; 39];
     let pairs = list.iter().cloned().zip(answers(list));
-    let on_kept = pairs.filter(|(record, _)| ["fresh", "frame", "reset"].contains(&record.name()));
+    let names = ["fresh", "frame", "reset", "given"];
+    let on_kept = pairs.filter(|(record, _)| names.contains(&record.name()));
     on_kept
         .map(|(record, answer)| {
             let words = answer.line.trim_end().split(' ');
@@ -31,27 +32,29 @@ fn lists() -> [Vec<Record>; 2] {
 #[test]
 fn a_refused_frame_changes_no_word_and_an_accepted_one_is_remembered() {
     // The random frames are too few for every number.
-    let expected: [&[u32]; 2] = [&[0, 1, 2, 3, 4, 5, 7, 8, 12], &[0, 12]];
+    let expected: [&[u32]; 2] = [&[0, 1, 2, 3, 4, 5, 6, 7, 8, 12], &[0, 12]];
     for (list, expected) in lists().iter().zip(expected) {
-        let mut met = BTreeSet::new();
+        let (mut met, mut is_given) = (BTreeSet::new(), false);
         for (record, answer, [before, after]) in steps(list) {
+            is_given = matches!(record, Record::Given(_)) || is_given && record.name() != "fresh";
             let Record::Frame(frame) = record else {
                 continue;
             };
+            // No frame leaves a record on which 6 would apply.
+            assert!(answer.refusal != 6 || is_given);
             met.insert(answer.refusal);
             if answer.refusal != 0 {
                 assert_eq!(before, after);
             } else {
                 let time = [after[37], after[38]].map(u32::to_le_bytes);
                 assert_eq!(frame[204..212], time.concat());
+                is_given = false;
             }
         }
         assert!(
             expected.iter().all(|refusal| met.contains(refusal)),
             "{met:?}"
         );
-        // No frame leaves a record on which 6 would apply.
-        assert!(!met.contains(&6));
     }
 }
 

@@ -23,6 +23,7 @@ fn every_record_begins_with_its_kind_and_has_its_length() {
                     assert_eq!(stored, (5, 432, true));
                 }
                 Record::Reset => assert_eq!((kind, bytes.len()), (6, 4)),
+                Record::Given(given) => assert_eq!((kind, &bytes[4..]), (7, &given[..])),
             }
         }
     }

@@ -49,7 +49,7 @@ fn shown(left: &Left) -> (u32, String) {
     (left.refusal, line)
 }
 
-/// The same of a fresh state, a frame or a reset on the record that is kept.
+/// The same of a fresh state, a frame, a reset or what is given on the record that is kept.
 fn shown_on(kept: &mut StateBytes, record: &Record) -> (u32, String) {
     let (refusal, words) = match record {
         Record::Frame(frame) => {
@@ -59,6 +59,10 @@ fn shown_on(kept: &mut StateBytes, record: &Record) -> (u32, String) {
         Record::Fresh => {
             host_calls::fresh(kept);
             (0, "fresh".to_owned())
+        }
+        Record::Given(bytes) => {
+            kept.copy_from_slice(bytes);
+            (0, "given".to_owned())
         }
         _ => {
             host_calls::reset(kept);

@@ -24,11 +24,13 @@ use crate::frame_state::State;
 use crate::words::in_bytes;
 
 pub use fixed::fixed_list;
+pub(crate) use fixed_states::DOUBLES;
 pub use frame::Frame;
 pub use good::{bare, example, full};
 pub use places::PAIRS;
 pub(crate) use random::good_frame;
 pub use random::{random_list, random_state};
+pub(crate) use states::stored;
 
 /// How many bytes of a frame a record stores.
 pub(crate) const STORED: usize = 424;

@@ -43,6 +43,10 @@ pub fn answers(list: &[Record]) -> Vec<Answer> {
             reset(&mut kept);
             shown("reset", &kept)
         }
+        Record::Given(bytes) => {
+            kept = *bytes;
+            shown("given", &kept)
+        }
     };
     list.iter().map(answer).collect()
 }

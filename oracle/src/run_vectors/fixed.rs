@@ -1,6 +1,7 @@
 //! The fixed list.
 
 use super::fixed_clocks::*;
+use super::fixed_given::on_given_records;
 use super::fixed_inside::*;
 use super::fixed_records::*;
 use super::fixed_refusals::*;
@@ -55,7 +56,7 @@ pub fn fixed_runs() -> Vec<Run> {
     runs
 }
 
-/// The fixed records: all runs by T, then some of them under tables, and by T again; then frames and resets.
+/// The fixed records: all runs by T, then some of them under tables, and by T again; then frames and resets, at last on records that are given.
 pub fn fixed_list() -> Vec<Record> {
     let mut list: Vec<Record> = fixed_runs().into_iter().map(Record::Run).collect();
     // Nobody loaded the zeros that are there at first.
@@ -73,6 +74,7 @@ pub fn fixed_list() -> Vec<Record> {
     }
     list.extend(that_show_the_table().iter().map(Run::of).map(Record::Run));
     list.extend([resets(), steps_of_time(), refusals(), hung_target()].concat());
+    list.extend(on_given_records());
     list
 }
 

@@ -9,7 +9,7 @@ use crate::frame_checks::LATEST;
 use crate::words::NAN;
 
 /// After the frame's own time.
-const LATER: f64 = NOW + 300.0;
+pub const LATER: f64 = NOW + 300.0;
 
 fn remembering(call: Call, time: f64) -> Call {
     let state = Remembering { time, ..call.state };

@@ -9,7 +9,7 @@ use crate::records::{FLAGS, OPTIONS};
 use crate::words::INF;
 
 /// What no flag may be: a low bit of 1 or 0, with another bit.
-const WRONG: [u32; 4] = [2, 0x0100, 0x0100_0001, 0x8000_0000];
+pub const WRONG: [u32; 4] = [2, 0x0100, 0x0100_0001, 0x8000_0000];
 
 /// Three not-a-numbers, of which the first is next to infinity.
 const NANS: [u32; 3] = [0x7f80_0001, 0x7fc0_0001, 0xffff_ffff];
@@ -18,7 +18,7 @@ const NANS: [u32; 3] = [0x7f80_0001, 0x7fc0_0001, 0xffff_ffff];
 const HIGH_NANS: [u32; 3] = [0x7ff0_0001, 0x7ff8_0000, 0xffff_ffff];
 
 /// What absent options hold: numbers, and what would be 6 if it were there.
-const WORDS: [u32; 4] = [0x42c8_0000, NANS[0], 0x0102_0304, NANS[2]];
+pub const WORDS: [u32; 4] = [0x42c8_0000, NANS[0], 0x0102_0304, NANS[2]];
 
 /// Without the one option that every list here has after a frame.
 fn bare(mut call: Call) -> Call {

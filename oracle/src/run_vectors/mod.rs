@@ -1,9 +1,11 @@
 //! Settling runs on records and the loads of the tables that they use, frames and resets on a record that is kept, in one list, and the
 //! answers that the documents give them.
 
+mod altered;
 mod answers;
 mod fixed;
 mod fixed_clocks;
+mod fixed_given;
 mod fixed_inside;
 mod fixed_records;
 mod fixed_refusals;
@@ -14,13 +16,14 @@ pub mod lists;
 mod random;
 mod runs;
 
-use crate::clock::Remembering;
+use crate::clock::{Remembering, StateBytes};
 use crate::frame_vectors::{Frame, STORED};
 use crate::settling_run::{settle, Settled};
 use crate::words::in_bytes;
 
 pub use answers::answers;
 pub use fixed::{fixed_calls, fixed_list, fixed_runs};
+pub use fixed_given::on_given_records;
 pub use hung_target::hung_target;
 pub use random::{arbitrary_calls, on_any_record, random_list, scene_calls};
 pub use runs::{Left, Run, UNWRITTEN};
@@ -61,6 +64,8 @@ pub enum Record {
     Frame(Vec<u8>),
     /// A reset of that record.
     Reset,
+    /// Other bytes in its place.
+    Given(StateBytes),
 }
 
 impl Record {
@@ -76,6 +81,7 @@ impl Record {
             Record::Fresh => "fresh",
             Record::Frame(_) => "frame",
             Record::Reset => "reset",
+            Record::Given(_) => "given",
         }
     }
 
@@ -88,6 +94,7 @@ impl Record {
             Record::Fresh => (4, Vec::new()),
             Record::Frame(bytes) => (5, stored_frame(bytes)),
             Record::Reset => (6, Vec::new()),
+            Record::Given(bytes) => (7, bytes.to_vec()),
         };
         [in_bytes(&[kind]), rest].concat()
     }

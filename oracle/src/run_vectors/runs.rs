@@ -1,9 +1,9 @@
 //! A run in the bytes that the library takes; some records are those of no state.
 
+use super::altered::{record_of, with_absent, with_word};
 use super::{stored_frame, Call};
 use crate::clock::StateBytes;
 use crate::host_calls::{settle, settle_by, RunBytes, UsedBytes};
-use crate::records::OPTIONS;
 use crate::tables::Table;
 use crate::words::{from_bytes, in_bytes};
 
@@ -30,10 +30,8 @@ pub struct Left {
 impl Run {
     /// On the record of the call's state, with zeros for absent options.
     pub fn of(call: &Call) -> Run {
-        let mut state = [0; 156];
-        call.state.write(&mut state);
         Run {
-            state,
+            state: record_of(&call.state),
             frame: call.frame.clone(),
             run: in_bytes(&call.run()).try_into().expect("three words"),
             used: UNWRITTEN,
@@ -41,20 +39,15 @@ impl Run {
     }
 
     /// With that word of the record, numbered from 0.
-    pub fn with(mut self, word: usize, bits: u32) -> Run {
-        self.state[4 * word..][..4].copy_from_slice(&bits.to_le_bytes());
-        self
+    pub fn with(self, word: usize, bits: u32) -> Run {
+        let state = with_word(self.state, word, bits);
+        Run { state, ..self }
     }
 
     /// With such words behind the flags of absent options.
-    pub fn with_absent(mut self, mut word: impl FnMut() -> u32) -> Run {
-        let given = from_bytes(&self.state);
-        for (flag, words) in OPTIONS {
-            if given[flag] == 0 {
-                self = (1..=words).fold(self, |run, i| run.with(flag + i, word()));
-            }
-        }
-        self
+    pub fn with_absent(self, word: impl FnMut() -> u32) -> Run {
+        let state = with_absent(self.state, word);
+        Run { state, ..self }
     }
 
     pub fn limit(&self) -> u32 {
