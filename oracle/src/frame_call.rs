@@ -7,7 +7,7 @@ use crate::frame_end::end;
 use crate::frame_state::State;
 use crate::records::write_output;
 use crate::rectangles::{Pos2, Rect};
-use crate::words::{from_bytes, in_hex};
+use crate::words::from_bytes;
 
 /// The answer of a frame call; on a refusal the state is the one given and the rest is zeros.
 #[derive(Clone, Copy, Debug, PartialEq)]
@@ -95,16 +95,7 @@ impl Output {
 
     /// Document 01's line of the listing.
     pub fn listing_line(&self) -> String {
-        let State { offset, vel, .. } = self.state;
-        let numbers = in_hex(
-            &[offset, vel]
-                .concat()
-                .iter()
-                .map(|x| x.to_bits())
-                .collect::<Vec<_>>(),
-        );
-        let [across, down] = self.state.scroll_stuck_to_end.map(u32::from);
-        format!("{}{numbers} {across}{down}\n", self.refusal)
+        format!("{}{}\n", self.refusal, self.state.listed())
     }
 
     /// The words of the record of the outputs other than refusal and state.

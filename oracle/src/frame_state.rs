@@ -1,6 +1,7 @@
 //! The state that a frame call is given: egui's fields, and check 6.
 
 use crate::rectangles::Rect;
+use crate::words::in_hex;
 
 /// A scroll target under way, as egui's type of that name.
 #[derive(Clone, Copy, Debug, PartialEq)]
@@ -45,6 +46,15 @@ impl Default for State {
 }
 
 impl State {
+    /// What document 01's line of the listing has behind the refusal: offset and velocity, and the stuck flags as digits.
+    pub fn listed(&self) -> String {
+        let [x, y] = self.offset.map(f32::to_bits);
+        let [across, down] = self.vel.map(f32::to_bits);
+        let numbers = in_hex(&[x, y, across, down]);
+        let [is_stuck_across, is_stuck_down] = self.scroll_stuck_to_end.map(u32::from);
+        format!("{numbers} {is_stuck_across}{is_stuck_down}")
+    }
+
     /// Check 6: "A number in the given state is not finite: 6", or 0; absent options hold no number.
     pub fn refusal(&self) -> u32 {
         let pairs = [self.offset, self.max_offset, self.vel];

@@ -5,7 +5,7 @@ use oracle::frame_vectors::random_state;
 use oracle::random::Random;
 use oracle::run_vectors::lists::{list, NOW};
 use oracle::scenes::{
-    fling_list, flings_with_resets, half_fling_list, scene_list, scenes_with_resets, Played,
+    fling_list, flings_with_resets, half_flings_with_resets, scene_list, scenes_with_resets, Played,
 };
 
 /// Frames in each list here.
@@ -24,11 +24,7 @@ fn clock_of(list: &[Vec<u8>]) -> Vec<(bool, f64)> {
 /// Frames refused with 12 come singly and some after another, and are few; late times are left for the end.
 #[test]
 fn a_clock_that_is_set_back_is_put_right() {
-    for list in [
-        scene_list(1, COUNT),
-        fling_list(1, COUNT),
-        half_fling_list(1, COUNT),
-    ] {
+    for list in [scene_list(1, COUNT), fling_list(1, COUNT)] {
         let clock = clock_of(&list);
         let streaks = clock.split(|(is_back, _)| !is_back).map(<[_]>::len);
         let streaks: Vec<usize> = streaks.filter(|length| *length > 0).collect();
@@ -62,7 +58,11 @@ fn random_states_remember_every_kind_of_time() {
 /// After half of the frames refused with 12 there is a reset and the same frame, which is not refused with 12 then.
 #[test]
 fn lists_with_resets_send_refused_frames_again() {
-    for list in [scenes_with_resets(1, COUNT), flings_with_resets(1, COUNT)] {
+    for list in [
+        scenes_with_resets(1, COUNT),
+        flings_with_resets(1, COUNT),
+        half_flings_with_resets(1, COUNT),
+    ] {
         let mut kept = Remembering::default();
         let (mut met, mut again, mut accepted) = (0, 0, 0);
         for (place, played) in list.iter().enumerate() {

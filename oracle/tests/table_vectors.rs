@@ -29,6 +29,7 @@ fn every_record_begins_with_its_kind_and_has_its_length() {
                 Record::Exp(_) => 8,
                 Record::Step(_) => 44,
                 Record::Frame(_) => 420,
+                Record::Reset => 4,
             };
             assert_eq!(bytes.len(), length);
             assert!(length <= 8 + 8_208);
@@ -54,6 +55,7 @@ fn every_line_begins_with_its_kind_and_shows_the_whole_answer() {
                     assert_eq!(words[1], answer.refusal.to_string());
                     assert_eq!(lengths[1..], [8, 8, 8, 8, 2]);
                 }
+                Record::Reset => assert_eq!(lengths, [8, 8, 8, 8, 2]),
             }
         }
     }
@@ -63,7 +65,7 @@ fn every_line_begins_with_its_kind_and_shows_the_whole_answer() {
 fn the_fixed_list_has_its_size_and_every_load() {
     let list = fixed_list();
     let count = |kind| list.iter().filter(|record| record.kind() == kind).count();
-    assert_eq!([1, 2, 3, 4].map(count), [59, 380, 390, 315]);
+    assert_eq!([1, 2, 3, 4, 5].map(count), [59, 380, 390, 299, 46]);
     let bytes: usize = list.iter().map(|record| record.input_record().len()).sum();
     assert!(bytes < 500_000, "{bytes}");
     let loads = |wanted: &[u8]| {
@@ -107,7 +109,7 @@ fn the_clearing_frames_lead_every_state_to_one() {
     }
 }
 
-/// The list ends with the same frames twice: T lent, and no table.
+/// The list ends with the same frames and resets twice: T lent, and no table.
 #[test]
 fn t_lent_and_no_table_give_the_same_answers() {
     let list = fixed_list();
@@ -116,8 +118,8 @@ fn t_lent_and_no_table_give_the_same_answers() {
     let mut places = loads.filter(|(_, record)| record.kind() == 1);
     let [none, lent] = [places.next(), places.next()].map(|load| load.expect("a load").0);
     assert_eq!((answers[lent].refusal, answers[none].refusal), (0, 10));
-    // The answers of the clearing frames still show the state before them.
-    let after = |load: usize| load + 1 + clearing_frames().len();
+    // The answers of the reset and of the clearing frames still show the state before them.
+    let after = |load: usize| load + 2 + clearing_frames().len();
     let lines = |from: usize, to: usize| -> Vec<&str> {
         answers[from..to]
             .iter()
@@ -126,7 +128,11 @@ fn t_lent_and_no_table_give_the_same_answers() {
     };
     let by_t = lines(after(lent), none);
     assert_eq!(by_t, lines(after(none), answers.len()));
-    assert_eq!(by_t.len(), 80);
+    assert_eq!(by_t.len(), 81);
+    for name in ["reset ", "frame 12 "] {
+        let met = by_t.iter().filter(|line| line.starts_with(name)).count();
+        assert!(met >= 8, "{name}: {met}");
+    }
 }
 
 /// Whether the list is answered otherwise where no table loads.
@@ -141,7 +147,7 @@ fn the_tables_show_in_every_kind_of_answer() {
         })
         .collect();
     let pairs: Vec<(Answer, Answer)> = answers(&list).into_iter().zip(answers(&without)).collect();
-    for (kind, least) in [(2, 150), (3, 150), (4, 80)] {
+    for (kind, least) in [(2, 150), (3, 150), (4, 80), (5, 15)] {
         let records = list.iter().zip(&pairs);
         let of_kind = records.filter(|(record, _)| record.kind() == kind);
         let different = of_kind.filter(|(_, (by, t))| by.line != t.line).count();

@@ -33,15 +33,10 @@ pub fn scene_list(seed: u64, count: usize) -> Vec<Vec<u8>> {
 
 /// That many whole frames of drags and flings alone, where exp shows.
 pub fn fling_list(seed: u64, count: usize) -> Vec<Vec<u8>> {
-    whole_frames(seed, count, fling)
-}
-
-/// That many whole frames of which some half are of drags and flings.
-pub fn half_fling_list(seed: u64, count: usize) -> Vec<Vec<u8>> {
-    whole_frames(seed, count, |stage| match stage.random.below(2) {
-        0 => fling(stage),
-        _ => scene(stage),
-    })
+    // One more, which is cut short.
+    let mut frames = frames_of(filled(Stage::new(seed, count + 1, false), fling));
+    frames.truncate(count);
+    frames
 }
 
 /// That many frames and resets of scenes.
@@ -54,18 +49,23 @@ pub fn flings_with_resets(seed: u64, count: usize) -> Vec<Played> {
     filled(Stage::new(seed, count, true), fling)
 }
 
+/// That many whole frames and resets, of which some half are of drags and flings.
+pub fn half_flings_with_resets(seed: u64, count: usize) -> Vec<Played> {
+    // One more, which may be cut short.
+    let stage = Stage::new(seed, count + 1, true);
+    let mut list = filled(stage, |stage| match stage.random.below(2) {
+        0 => fling(stage),
+        _ => scene(stage),
+    });
+    list.truncate(count);
+    list
+}
+
 fn filled(mut stage: Stage, scene: fn(&mut Stage)) -> Vec<Played> {
     while !stage.is_full() {
         scene(&mut stage);
     }
     stage.finish()
-}
-
-fn whole_frames(seed: u64, count: usize, scene: fn(&mut Stage)) -> Vec<Vec<u8>> {
-    // One more, which is cut short.
-    let mut frames = frames_of(filled(Stage::new(seed, count + 1, false), scene));
-    frames.truncate(count);
-    frames
 }
 
 fn frames_of(list: Vec<Played>) -> Vec<Vec<u8>> {

@@ -30,6 +30,7 @@ impl Run {
             Record::Exp(bits) => self.exp(*bits),
             Record::Step(call) => self.step(call),
             Record::Frame(bytes) => self.frame(bytes),
+            Record::Reset => self.reset(),
         }
     }
 
@@ -56,5 +57,12 @@ impl Run {
         let (refusal, listed) = (output.refusal, output.listing_line());
         let line = format!("frame {listed}");
         Answer { refusal, line }
+    }
+
+    /// By value; the line shows the state after it.
+    fn reset(&mut self) -> Answer {
+        self.state.reset();
+        let line = format!("reset{}\n", self.state.egui.listed());
+        Answer { refusal: 0, line }
     }
 }

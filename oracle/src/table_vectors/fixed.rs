@@ -1,33 +1,42 @@
 //! The fixed list.
 
+use super::fixed_falls::falling_times;
 use super::Record;
 use crate::axis_calls::{LONGEST_DECAY, SHORTEST_DECAY};
 use crate::axis_vectors::random_numbers::ENDS;
 use crate::axis_vectors::scene::{Scene, PLAIN, RUBBER};
 use crate::axis_vectors::Call;
-use crate::frame_checks::LATEST;
 use crate::frame_vectors::{example, Frame};
-use crate::scenes::{fling_list, scene_list};
+use crate::scenes::{fling_list, flings_with_resets, scenes_with_resets, Played};
 use crate::tables::{bytes_of, good, refused, t_bytes, Refused};
-use crate::words::{around, from_bytes, INF, LARGEST, NAN};
+use crate::words::{around, INF, LARGEST, NAN};
 
 /// Of the tables and of the frames.
 const SEED: u64 = 4;
 
-/// Frames under one table.
-const RUN: usize = 8;
+/// Frames of flings under one table; those of a fall come after them.
+const RUN: usize = 5;
+
+/// Of the flings and scenes that are played twice: in both the clock is set back and reset, in the scenes with targets under way.
+const SET_BACK: u64 = 43;
+
+/// So many frames and resets of each.
+const TWICE: usize = 40;
 
 /// The fixed records.
 pub fn fixed_list() -> Vec<Record> {
     let mut frames = fling_list(SEED, 400).into_iter().map(Record::Frame);
+    let mut falls = falling_times();
     // Those of 11 first, each after a table that serves.
     let mut refused = refused().into_iter().rev();
     let mut list = calls();
     list.extend(frames.by_ref().take(RUN));
+    list.extend(falls.next().into_iter().flatten());
     for table in good(SEED) {
         list.push(Record::Load(bytes_of(&table.table).to_vec()));
         list.extend(calls());
         list.extend(frames.by_ref().take(RUN));
+        list.extend(falls.next().into_iter().flatten());
         let next = refused.by_ref().take(1);
         list.extend(next.flat_map(|refused| not_loading(refused, &mut frames)));
     }
@@ -131,22 +140,22 @@ fn changing(frames: &mut impl Iterator<Item = Record>) -> Vec<Record> {
     list
 }
 
-/// The same frames from the same state under T lent and under no table, all at the last time, which no other is after.
+/// The same frames and resets from the same state under T lent and under no table.
 fn t_lent_and_none() -> Vec<Record> {
-    let mut frames = fling_list(SEED + 2, 40);
-    frames.extend(scene_list(SEED + 2, 41).into_iter().take(40));
+    // Of each list the last one, which may be cut short, is left out.
+    let flings = flings_with_resets(SET_BACK, TWICE + 1).into_iter();
+    let scenes = scenes_with_resets(SET_BACK, TWICE + 1).into_iter();
+    let mut played: Vec<Played> = flings.take(TWICE).collect();
+    // The clock of the scenes begins at 0 too.
+    played.push(Played::Reset);
+    played.extend(scenes.take(TWICE));
     let mut list = Vec::new();
     for table in [t_bytes().to_vec(), Vec::new()] {
-        list.push(Record::Load(table));
-        let played = clearing_frames().into_iter().chain(frames.clone());
-        list.extend(played.map(|frame| Record::Frame(at_last_time(&frame))));
+        list.extend([Record::Load(table), Record::Reset]);
+        list.extend(clearing_frames().into_iter().map(Record::Frame));
+        list.extend(played.iter().cloned().map(Record::from));
     }
     list
-}
-
-fn at_last_time(frame: &[u8]) -> Vec<u8> {
-    let words = from_bytes(frame).try_into().expect("104 words");
-    Frame::of(words).with_time(LATEST.to_bits()).bytes()
 }
 
 /// Frames that lead every state whose numbers are finite to one state: a press on each bar ends targets, a frame without one ends the

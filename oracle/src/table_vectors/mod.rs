@@ -2,9 +2,11 @@
 
 mod answers;
 mod fixed;
+mod fixed_falls;
 mod random;
 
 use crate::axis_vectors::Call;
+use crate::scenes::Played;
 use crate::words::in_bytes;
 
 pub use answers::answers;
@@ -20,8 +22,19 @@ pub enum Record {
     Exp(u32),
     /// An axis call, a step.
     Step(Call),
-    /// A whole frame, on the state that the frames before it left.
+    /// A whole frame, on the state that the frames and resets before it left.
     Frame(Vec<u8>),
+    /// A reset of that state.
+    Reset,
+}
+
+impl From<Played> for Record {
+    fn from(played: Played) -> Record {
+        match played {
+            Played::Frame(bytes) => Record::Frame(bytes),
+            Played::Reset => Record::Reset,
+        }
+    }
 }
 
 impl Record {
@@ -32,11 +45,12 @@ impl Record {
             Record::Exp(_) => 2,
             Record::Step(_) => 3,
             Record::Frame(_) => 4,
+            Record::Reset => 5,
         }
     }
 
     pub fn name(&self) -> &'static str {
-        ["load", "exp", "step", "frame"][self.kind() - 1]
+        ["load", "exp", "step", "frame", "reset"][self.kind() - 1]
     }
 
     /// The record that asks: the kind's word, and what the kind takes; a load's bytes after their number.
@@ -47,6 +61,7 @@ impl Record {
             Record::Exp(bits) => in_bytes(&[*bits]),
             Record::Step(call) => in_bytes(call.operands()),
             Record::Frame(bytes) => bytes.clone(),
+            Record::Reset => Vec::new(),
         };
         [kind, rest].concat()
     }

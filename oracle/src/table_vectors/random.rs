@@ -3,7 +3,7 @@
 use super::Record;
 use crate::axis_vectors::{self, Kind};
 use crate::random::Random;
-use crate::scenes::half_fling_list;
+use crate::scenes::half_flings_with_resets;
 use crate::tables::random_load;
 use crate::words::EDGES;
 
@@ -21,10 +21,12 @@ pub fn random_list(seed: u64, count: usize) -> Vec<Record> {
     (0..count).map(&mut record).collect()
 }
 
-/// Whole frames of every scene, and some more of flings.
+/// Whole frames of every scene, and some more of flings, with resets among them; one at first, since the list may begin anew.
 fn frames(seed: u64, count: usize) -> Vec<Record> {
-    let frames = half_fling_list(seed, count / 2 + 1);
-    frames.into_iter().map(Record::Frame).collect()
+    let mut records = vec![Record::Reset];
+    let played = half_flings_with_resets(seed, count / 2 + 1);
+    records.extend(played.into_iter().map(Record::from));
+    records
 }
 
 fn steps(seed: u64, count: usize) -> Vec<Record> {
