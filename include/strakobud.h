@@ -71,7 +71,7 @@ extern "C" {
  * frame 2. */
 void strakobud_fresh(uint8_t state[STRAKOBUD_STATE_BYTES]);
 
-/* For a clock that was set back: the remembered time becomes 0, so that a frame of any time is accepted again. It writes
+/* For a clock that was set back: the remembered time becomes 0, so that 12 refuses no frame until one is accepted. It writes
  * words 38 and 39 and nothing else, and is never refused, also on a state that 6 refuses. A scroll target under way keeps
  * its start and end on the old clock: before that start it stands, and a drag, a taken wheel turn or a press on the bar
  * gives it up. */
@@ -127,7 +127,7 @@ uint32_t strakobud_frame_by(uint8_t state[STRAKOBUD_STATE_BYTES], const uint8_t 
  * once the time is above 2^32, or 12, at the first frame alone, and no other. If that was the first one, with 8 or 12, 0 are
  * used and the state is as given. With used set to 0 before the call it is right after every answer. 0 with used below the
  * limit: the list rests; with used equal to the limit it may or may not. A frame that was cleared of its input, as above,
- * moves no axis. The state remembers the time of the run's last frame, below which the next call's may not lie.
+ * moves no axis. The state remembers the time of the run's last accepted frame, below which the next call's may not lie.
  *
  * Rest is not stillness. A held overscroll rests with the velocity that it keeps. With rubber band off, a list that has
  * run into its end stands there, and rests in the next frame if its bar shows (its factor is not 0), else once its

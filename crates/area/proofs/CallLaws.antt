@@ -14,7 +14,7 @@ use Rattle.area.specs.Pair.{num}
 use Rattle.area.specs.Layout as At
 use Rattle.area.specs.Frame.{timeNo, hostOf, frameOf}
 use Rattle.area.specs.Clock.{isBack, clockRefusal}
-use Rattle.area.specs.Checks.{frameRefusal, stateRefusal, refusalOf, refusalBefore7, isPairFinite, areTargetsFinite, arePressesFinite, isRectFinite, isStateFinite}
+use Rattle.area.specs.Checks.{anyShows, frameRefusal, stateRefusal, refusalOf, refusalBefore7, isPairFinite, areTargetsFinite, arePressesFinite, isRectFinite, isStateFinite}
 use Rattle.area.specs.End.{isPressBlocked}
 use Rattle.area.specs.PutOut.{nextState, outcomeOf, answerOf}
 use Rattle.area.specs.Outcome.{refusedOf, isOutcomeFinite, isAnswerFinite}
@@ -26,6 +26,7 @@ use Rattle.area.specs.declared.frame.Frame.{Frame}
 use Rattle.area.specs.declared.end.Ended.{Ended}
 use Rattle.area.specs.declared.outcome.Answer.{Answer}
 use Rattle.area.proofs.TestLaws.{and-left, and-right, both-zero}
+use Rattle.area.proofs.PassedLaws.{firstOf}
 
 -- ---- with the first refusal r of checks 1 to 6 and 12, whether a press is blocked, and whether what is put out is finite
 
@@ -108,6 +109,48 @@ call-refused table S bytes a =
 
 pub refusal-keeps : (table : Table) (S : State) (bytes : List ℕ) → isAccepted (stepAt table S bytes) ≡ false → stepAt table S bytes .state ≡ S
 refusal-keeps table S bytes a = rw step-is-call (call-refused table S bytes (rw step-is-call at a))
+
+-- ---- 12 is for a frame and a state that pass 1 to 6 and a time that is less
+
+-- none of 1 to 6 is 12
+first-of-6 : (long two three four five finite : Bool)
+    → let k = firstOf long two three four five in eqb (cond (eqb k 0) (cond finite 0 6) k) 12 ≡ false
+first-of-6 false b c d e f = refl
+first-of-6 true true c d e f = refl
+first-of-6 true false true d e f = refl
+first-of-6 true false false true e f = refl
+first-of-6 true false false false true f = refl
+first-of-6 true false false false false true = refl
+first-of-6 true false false false false false = refl
+
+not-12 : (S : State) (bytes : List ℕ) → eqb (refusalOf bytes S) 12 ≡ false
+unfolding refusalOf frameRefusal stateRefusal
+not-12 S bytes =
+    first-of-6 (eqb (length bytes) 416) (anyShows 2 bytes 104) (anyShows 3 bytes 104) (anyShows 4 bytes 104) (anyShows 5 bytes 104) (isStateFinite S)
+
+-- with the first refusal k of 1 to 6, whether it is none, and whether the time is less
+twelve-by : (k : ℕ) (passes back : Bool) → eqb k 12 ≡ false → eqb (cond passes (cond back 12 0) k) 12 ≡ (passes && back)
+twelve-by k true true h = refl
+twelve-by k true false h = refl
+twelve-by k false back h = h
+
+called-12 : (S : State) (outputs : Answer) (r : ℕ) (passes blocked finite : Bool) → isAccepted outputs ≡ true → eqb r 0 ≡ passes
+    → eqb (called S outputs r passes blocked finite .outcome .refusal) 12 ≡ eqb r 12
+unfolding refusedOf
+called-12 S outputs r true true finite o h = sym (ap (λ (n : ℕ). eqb n 12) (eqb-true r 0 h))
+called-12 S outputs r true false true o h =
+    ap (λ (n : ℕ). eqb n 12) (eqb-true (outputs .outcome .refusal) 0 o ∙ sym (eqb-true r 0 h))
+called-12 S outputs r true false false o h = sym (ap (λ (n : ℕ). eqb n 12) (eqb-true r 0 h))
+called-12 S outputs r false blocked finite o h = refl
+
+pub twelve : (table : Table) (S : State) (bytes : List ℕ)
+    → eqb (stepAt table S bytes .outcome .refusal) 12 ≡ (eqb (refusalOf bytes S) 0 && isBack bytes S)
+unfolding outputsAt endedAt begunAt callUnder runOf refusalBefore7 clockRefusal
+twelve table S bytes =
+    ap (λ (r : Answer). eqb (r .outcome .refusal) 12) (step-is-call table S bytes)
+    ∙ called-12 S (outputsAt table S bytes) (refusalBefore7 bytes S) (eqb (refusalBefore7 bytes S) 0) (isPressBlocked (endedAt table S bytes))
+    (isAnswerFinite (outputsAt table S bytes)) (outputs-accepted table S bytes) refl
+    ∙ twelve-by (refusalOf bytes S) (eqb (refusalOf bytes S) 0) (isBack bytes S) (not-12 S bytes)
 
 -- ---- an accepted frame
 

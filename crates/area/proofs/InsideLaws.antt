@@ -22,8 +22,8 @@ use Rattle.area.specs.Moved.{isMovedByWords}
 use Rattle.area.specs.SettlingRun.{isNoLimit, isNoIncrement, runRefusal, settleRefusal, advanced, isInside, FrameInside}
 use Rattle.area.specs.declared.state.State.{State}
 use Rattle.area.specs.declared.outcome.Answer.{Answer}
-use Rattle.area.proofs.TestLaws.{not-left, not-right, fails-right}
-use Rattle.area.proofs.CallLaws.{called, step-is-call, outputs-accepted, accepted, whole-if-passed}
+use Rattle.area.proofs.TestLaws.{not-left, not-right}
+use Rattle.area.proofs.CallLaws.{called, step-is-call, outputs-accepted, twelve, accepted, whole-if-passed}
 use Rattle.area.proofs.PassedLaws.{unrefused, passed-time}
 use Rattle.area.proofs.MovedLaws.{unblocked}
 use Rattle.area.proofs.AdvancedLaws.{advanced-whole, moves-alike, late-alone}
@@ -69,10 +69,10 @@ state-passes S h = by (isStateFinite S) h
     by true h = refl
     by false h = absurd (omega (arith, h))
 
-still-by : (a b x y : Bool) → cond {A = ℕ} (a || b || x || y) 9 0 ≡ 0 → (b ≡ false) × (x ≡ false) × (y ≡ false)
-still-by a b x y h =
-    let limits = not-left (a || b || x) y none in
-    (not-right a b (not-left (a || b) x limits), not-right (a || b) x limits, not-right (a || b || x) y none)
+nine-by : (a b x y : Bool) → cond {A = ℕ} (a || b || x || y) 9 0 ≡ 0 → (b ≡ false) × (x ≡ false) × (y ≡ false)
+nine-by a b x y h =
+    let ahead = not-left (a || b || x) y none in
+    (not-right a b (not-left (a || b) x ahead), not-right (a || b) x ahead, not-right (a || b || x) y none)
   where
     nine : (t : Bool) → cond {A = ℕ} t 9 0 ≡ 0 → t ≡ false
     nine true h = absurd (omega (arith, h))
@@ -87,7 +87,7 @@ early-first S bytes increment limit h = passed-time bytes (unrefused bytes S (pa
 passes-nine : (bytes : List ℕ) (increment : Float) (limit : ℕ) → runRefusal bytes increment limit ≡ 0
     → (isNoIncrement increment ≡ false) × (isMovedByWords bytes 0 ≡ false) × (isMovedByWords bytes 1 ≡ false)
 unfolding runRefusal
-passes-nine bytes increment limit h = still-by (isNoLimit limit) (isNoIncrement increment) (isMovedByWords bytes 0) (isMovedByWords bytes 1) h
+passes-nine bytes increment limit h = nine-by (isNoLimit limit) (isNoIncrement increment) (isMovedByWords bytes 0) (isMovedByWords bytes 1) h
 
 pub some-increment : (S : State) (bytes : List ℕ) (increment : Float) (limit : ℕ) → settleRefusal S bytes increment limit ≡ 0
     → isNoIncrement increment ≡ false
@@ -106,48 +106,50 @@ inner-first S bytes increment limit h =
     }
 
 -- ---- so each is refused with 3 exactly where it is late, with 12 where it is not but the clock has run back, and otherwise with 8 alone
-refusal-by : (late : Bool) (k state clock : ℕ) → k ≡ cond late 3 0 → state ≡ clock → cond (eqb k 0) state k ≡ cond late 3 clock
-refusal-by true k state clock e z = ap (λ (n : ℕ). cond (eqb n 0) state n) e
-refusal-by false k state clock e z = ap (λ (n : ℕ). cond (eqb n 0) state n) e ∙ z
+refusal-by : (late : Bool) (k next value : ℕ) → k ≡ cond late 3 0 → next ≡ value → cond (eqb k 0) next k ≡ cond late 3 value
+refusal-by true k next value e z = ap (λ (n : ℕ). cond (eqb n 0) next n) e
+refusal-by false k next value e z = ap (λ (n : ℕ). cond (eqb n 0) next n) e ∙ z
+
+inner-passes : (S : State) (bytes : List ℕ) → Inner S bytes → refusalOf bytes S ≡ cond (isLate bytes) 3 0
+unfolding refusalOf stateRefusal
+inner-passes S bytes i = refusal-by (isLate bytes) (frameRefusal bytes) (stateRefusal S) 0 (i .shows) (rw (i .finite))
 
 abbrev refusalInside : Bool → Bool → ℕ
 refusalInside late back = cond late 3 (cond back 12 0)
 
 inner-refusal : (S : State) (bytes : List ℕ) → Inner S bytes → refusalBefore7 bytes S ≡ refusalInside (isLate bytes) (isBack bytes S)
-unfolding refusalOf stateRefusal refusalBefore7 clockRefusal
+unfolding refusalBefore7 clockRefusal
 inner-refusal S bytes i =
-    let passes = refusal-by (isLate bytes) (frameRefusal bytes) (stateRefusal S) 0 (i .shows) (rw (i .finite)) in
-    refusal-by (isLate bytes) (refusalOf bytes S) (clockRefusal bytes S) (cond (isBack bytes S) 12 0) passes refl
+    refusal-by (isLate bytes) (refusalOf bytes S) (clockRefusal bytes S) (cond (isBack bytes S) 12 0) (inner-passes S bytes i) refl
 
-abbrev Refused : Bool → Bool → ℕ → Type 0
-Refused late back refusal = (isInside refusal ≡ true) × (eqb refusal 3 ≡ late) × (eqb refusal 12 ≡ (not late && back))
+abbrev Refused : Bool → ℕ → Type 0
+Refused late refusal = (isInside refusal ≡ true) × (eqb refusal 3 ≡ late)
 
 refused-by : (S : State) (outputs : Answer) (late back finite : Bool) → isAccepted outputs ≡ true
-    → Refused late back (called S outputs (refusalInside late back) (eqb (refusalInside late back) 0) false finite .outcome .refusal)
+    → Refused late (called S outputs (refusalInside late back) (eqb (refusalInside late back) 0) false finite .outcome .refusal)
 unfolding refusedOf
-refused-by S outputs true back finite o = (refl, refl, refl)
-refused-by S outputs false true finite o = (refl, refl, refl)
+refused-by S outputs true back finite o = (refl, refl)
+refused-by S outputs false true finite o = (refl, refl)
 refused-by S outputs false false true o =
-    let none = eqb-true (outputs .outcome .refusal) 0 o in (ap isInside none, ap (λ (n : ℕ). eqb n 3) none, ap (λ (n : ℕ). eqb n 12) none)
-refused-by S outputs false false false o = (refl, refl, refl)
+    let none = eqb-true (outputs .outcome .refusal) 0 o in (ap isInside none, ap (λ (n : ℕ). eqb n 3) none)
+refused-by S outputs false false false o = (refl, refl)
 
-inner-refused : (table : Table) (S : State) (bytes : List ℕ) → Inner S bytes
-    → Refused (isLate bytes) (isBack bytes S) (stepAt table S bytes .outcome .refusal)
+inner-refused : (table : Table) (S : State) (bytes : List ℕ) → Inner S bytes → Refused (isLate bytes) (stepAt table S bytes .outcome .refusal)
 unfolding outputsAt endedAt begunAt callUnder runOf
 inner-refused table S bytes i =
     rw (step-is-call table S bytes, inner-refusal S bytes i, unblocked table S bytes (i .still .0) (i .still .1))
     (refused-by S (outputsAt table S bytes) (isLate bytes) (isBack bytes S) (isAnswerFinite (outputsAt table S bytes)) (outputs-accepted table S bytes))
 
--- with 12 where it is not late and the clock has run back
-pub back-inside : (table : Table) (S : State) (bytes : List ℕ) → Inner S bytes → isLate bytes ≡ false
-    → eqb (stepAt table S bytes .outcome .refusal) 12 ≡ isBack bytes S
-back-inside table S bytes i early = inner-refused table S bytes i .2 ∙ ap (λ (t : Bool). not t && isBack bytes S) early
+not-late : (late : Bool) → eqb (cond late 3 0) 0 ≡ not late
+not-late true = refl
+not-late false = refl
 
--- not where it has not
-pub no-12 : (table : Table) (S : State) (bytes : List ℕ) → Inner S bytes → isBack bytes S ≡ false → eqb (stepAt table S bytes .outcome .refusal) 12 ≡ false
-no-12 table S bytes i forward = inner-refused table S bytes i .2 ∙ fails-right (not (isLate bytes)) (isBack bytes S) forward
+inner-back : (table : Table) (S : State) (bytes : List ℕ) → Inner S bytes
+    → eqb (stepAt table S bytes .outcome .refusal) 12 ≡ (not (isLate bytes) && isBack bytes S)
+inner-back table S bytes i =
+    twelve table S bytes ∙ ap (λ (t : Bool). t && isBack bytes S) (ap (λ (n : ℕ). eqb n 0) (inner-passes S bytes i) ∙ not-late (isLate bytes))
 
 pub frame-inside : (table : Table) (S : State) (bytes : List ℕ) → Inner S bytes → FrameInside table S bytes
 frame-inside table S bytes i =
     let refused = inner-refused table S bytes i in
-    record { unmoved = i .still; refused = refused .0; late = refused .1 }
+    record { unmoved = i .still; refused = refused .0; late = refused .1; back = inner-back table S bytes i }

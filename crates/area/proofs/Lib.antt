@@ -7,7 +7,6 @@ pub mod BadWordLaws
 pub mod InfinityLaws
 pub mod MarkLaws
 pub mod OrderLaws
-pub mod CallLaws
 pub mod FollowLaws
 pub mod TargetLaws
 pub mod RangeLaws
@@ -15,6 +14,7 @@ pub mod StuckLaws
 pub mod EndLaws
 pub mod ZeroLaws
 pub mod PassedLaws
+pub mod CallLaws
 pub mod MovedLaws
 pub mod WithoutInputLaws
 pub mod SettlingRunLaws

@@ -28,9 +28,9 @@ use Rattle.area.proofs.ListingLaws.{listing-shown}
 -- ---- "answers and state equal document 01's steps"
 
 -- the steps on frames, and then on others
-pub state-after : (S : State) (frames others : List Fed) → stateFrom S (frames ++ others) ≡ stateFrom (stateFrom S frames) others
-state-after S [] others = refl
-state-after S (fed ∷ frames) others = state-after (stateAfter S fed) frames others
+pub state-append : (S : State) (frames others : List Fed) → stateFrom S (frames ++ others) ≡ stateFrom (stateFrom S frames) others
+state-append S [] others = refl
+state-append S (fed ∷ frames) others = state-append (stateAfter S fed) frames others
 
 record Same (s : State) (calls : List Call) (answers : List Told) (t : State) : Type 0 where
   pub answers-same : answers ≡ toldFrom s calls
@@ -53,7 +53,7 @@ same (settled {table} {s} {bytes} {increment} {limit} {r} {calls} {answers} {t} 
     let rest = subst (λ (z : Settled). Same (z .state) calls answers t) is-run (same run) in
     record {
       answers-same = λ i. ofRun (is-run i) ∷ rest .answers-same i;
-      state-same = rest .state-same ∙ sym (state-after s (framesOf table s bytes increment limit) _);
+      state-same = rest .state-same ∙ sym (state-append s (framesOf table s bytes increment limit) _);
     }
 same (cleared {s} {u} {calls} {answers} {t} says run) =
     let rest = subst (λ (v : State). Same v calls answers t) says (same run) in
@@ -70,7 +70,7 @@ run-of s (lent table bytes ∷ calls) =
     (run-of (stepAt table s bytes .state) calls)
 run-of s (settle table bytes increment limit ∷ calls) =
     let frames = framesOf table s bytes increment limit in
-    subst (Run s (settle table bytes increment limit ∷ calls) _) (sym (state-after s frames _))
+    subst (Run s (settle table bytes increment limit ∷ calls) _) (sym (state-append s frames _))
     (settled (sym (run-holds table s bytes increment limit .by-steps)) (run-of (stateFrom s frames) calls))
 run-of s (reset ∷ calls) = cleared refl (run-of (resetOf s) calls)
 

@@ -3,7 +3,7 @@ use Prim.Native.Nat.{ℕ, zero, suc, _≤_, _+_}
 use native.Mathlib.Numerals.{add-one}
 use native.Mathlib.Omega.{arith}
 use mathlib.Core.Path.{_≡_, refl, sym, ap, _∙_}
-use mathlib.Core.Bool.{Bool, true, false, cond, true≢false}
+use mathlib.Core.Bool.{Bool, true, false, cond, _&&_, true≢false}
 use mathlib.Core.List.{List, [], _∷_}
 use borrow.Author.Tests.{eqb-true, eqb-false, eq-eqb}
 use lib.Dec.{eqb}
@@ -11,15 +11,17 @@ use lib.Ieee.{Float}
 use lib.ListN.{length}
 use Rattle.numbers.specs.Table.{Table}
 use Rattle.area.specs.Clock.{isBack}
+use Rattle.area.specs.Checks.{refusalOf}
 use Rattle.area.specs.Steps.{Fed, fedFrame, stepAt, answersFrom, stateFrom, isAccepted, acceptedFrom}
 use Rattle.area.specs.SettlingRun.{isNoIncrement, runRefusal, settleRefusal, advanced, endedWith, counted, settleFrom, settleUnder}
 use Rattle.area.specs.SettlingRun.{framesFrom, framesOf, lastRefusal, settledBy, isInside, FramesInside, RunHolds}
 use Rattle.area.specs.declared.state.State.{State}
 use Rattle.area.specs.declared.outcome.Answer.{Answer}
 use Rattle.area.specs.declared.«settling_run».Settled.{Settled}
-use Rattle.area.proofs.CallLaws.{step-is-call, refusal-keeps, accepted}
+use Rattle.area.proofs.TestLaws.{fails-right}
+use Rattle.area.proofs.CallLaws.{step-is-call, refusal-keeps, twelve, accepted}
 use Rattle.area.proofs.SettlingRunLaws.{passes-first}
-use Rattle.area.proofs.InsideLaws.{Inner, isLate, inner-next, inner-first, early-first, some-increment, next-in-time, back-inside, no-12, frame-inside}
+use Rattle.area.proofs.InsideLaws.{Inner, isLate, inner-next, inner-first, early-first, some-increment, next-in-time, frame-inside}
 
 -- ---- what the steps on a list of frames come to
 abbrev come : State → List Fed → Settled
@@ -127,26 +129,26 @@ module _ (table : Table) (increment : Float) where
   -- 12: not after the first frame, and at it where the clock has run back
   forward : {n : ℕ} {S : State} {bytes : List ℕ} {r : Settled} {frames : List Fed} → Goes n S bytes r frames → isNoIncrement increment ≡ false
       → Inner S bytes → isBack bytes S ≡ false → eqb (r .refusal) 12 ≡ false
-  forward ends some i h = refl
-  forward (refused a) some i h = no-12 table _ _ i h
-  forward (rests a) some i h = refl
-  forward (on a run) some i h = forward run some (inner-next table increment _ _ i a) (next-in-time table increment _ _ some i a)
+  forward ends lawful i h = refl
+  forward (refused {n} {S} {bytes} a) lawful i h = twelve table S bytes ∙ fails-right (eqb (refusalOf bytes S) 0) (isBack bytes S) h
+  forward (rests a) lawful i h = refl
+  forward (on a run) lawful i h = forward run lawful (inner-next table increment _ _ i a) (next-in-time table increment _ _ lawful i a)
 
   back : {n : ℕ} {S : State} {bytes : List ℕ} {r : Settled} {frames : List Fed} → Goes n S bytes r frames → 1 ≤ n → isNoIncrement increment ≡ false
-      → Inner S bytes → isLate bytes ≡ false → eqb (r .refusal) 12 ≡ isBack bytes S
-  back ends one some i early = absurd (omega (arith, one))
-  back (refused a) one some i early = back-inside table _ _ i early
-  back (rests a) one some i early = sym (accepted table _ _ a .in-time)
-  back (on a run) one some i early =
-      forward run some (inner-next table increment _ _ i a) (next-in-time table increment _ _ some i a) ∙ sym (accepted table _ _ a .in-time)
+      → Inner S bytes → refusalOf bytes S ≡ 0 → eqb (r .refusal) 12 ≡ isBack bytes S
+  back ends one lawful i passes = absurd (omega (arith, one))
+  back (refused {n} {S} {bytes} a) one lawful i passes = twelve table S bytes ∙ ap (λ (k : ℕ). eqb k 0 && isBack bytes S) passes
+  back (rests a) one lawful i passes = sym (accepted table _ _ a .in-time)
+  back (on a run) one lawful i passes =
+      forward run lawful (inner-next table increment _ _ i a) (next-in-time table increment _ _ lawful i a) ∙ sym (accepted table _ _ a .in-time)
 
   only-first : {n : ℕ} {S : State} {bytes : List ℕ} {r : Settled} {frames : List Fed} → Goes n S bytes r frames → isNoIncrement increment ≡ false
-      → Inner S bytes → r .refusal ≡ 12 → r .used ≡ 0
-  only-first ends some i h = refl
-  only-first (refused a) some i h = refl
-  only-first (rests a) some i h = absurd (omega (arith, h))
-  only-first (on a run) some i h =
-      let none = forward run some (inner-next table increment _ _ i a) (next-in-time table increment _ _ some i a) in
+      → Inner S bytes → r .refusal ≡ 12 → r ≡ endedWith 12 S
+  only-first ends lawful i h = absurd (omega (arith, h))
+  only-first (refused {n} {S} a) lawful i h = ap (λ (k : ℕ). endedWith k S) h
+  only-first (rests a) lawful i h = absurd (omega (arith, h))
+  only-first (on a run) lawful i h =
+      let none = forward run lawful (inner-next table increment _ _ i a) (next-in-time table increment _ _ lawful i a) in
       absurd (true≢false (sym (eq-eqb _ 12 h) ∙ none))
 
 -- ---- the whole run
@@ -169,7 +171,7 @@ module _ (table : Table) (S : State) (bytes : List ℕ) (increment : Float) (lim
       let none = eqb-true refusal 0 h in
       let run = goes table increment limit S bytes in
       let first = inner-first S bytes increment limit none in
-      let some = some-increment S bytes increment limit none in
+      let lawful = some-increment S bytes increment limit none in
       rw h
       (record {
         at-most = at-most table increment run;
@@ -177,8 +179,8 @@ module _ (table : Table) (S : State) (bytes : List ℕ) (increment : Float) (lim
         up-front = λ no. absurd (no none);
         inside = λ _. inside table increment run first;
         not-first = λ _. not-first table increment run first (early-first S bytes increment limit none);
-        back = λ _. back table increment run (some-frames S bytes increment limit none) some first (early-first S bytes increment limit none);
-        only-first = λ _. only-first table increment run some first;
+        back = λ _. back table increment run (some-frames S bytes increment limit none) lawful first (passes-first S bytes increment limit none .0);
+        only-first = λ _. only-first table increment run lawful first;
         frames-inside = rw h (frames-inside table increment run first);
         by-steps = rw h (by-steps table increment run);
       })

@@ -32,10 +32,10 @@ high-small t held = halved (toBits binary64 t) (toBits-lt binary64 t held)
     halved : (b : ℕ) → b < 18446744073709551616 → b / 4294967296 < 4294967296
     halved b small = omega (arith, small)
 
-pub time-back : (s : List ℕ) (n : ℕ) (t : Float) → T (fits binary64 t) → wordNo s n ≡ toBits binary64 t % 4294967296
+pub time-read-back : (s : List ℕ) (n : ℕ) (t : Float) → T (fits binary64 t) → wordNo s n ≡ toBits binary64 t % 4294967296
     → wordNo s (n + 1) ≡ toBits binary64 t / 4294967296 → timeNo s n ≡ t
 unfolding timeNo
-time-back s n t held low high =
+time-read-back s n t held low high =
     ap (λ (w : ℕ). ofBits binary64 (wordNo s (n + 1) * 4294967296 + w)) low
     ∙ ap (λ (w : ℕ). ofBits binary64 (w * 4294967296 + toBits binary64 t % 4294967296)) high
     ∙ ap (ofBits binary64) (joined (toBits binary64 t))
@@ -49,7 +49,7 @@ module _ (at : ℕ) (t : Float) (held : T (fits binary64 t)) (bytes : List ℕ) 
   pub time-written : timeNo (putAt at (timeWords t) bytes) (at + 1) ≡ t
   unfolding wordNo
   time-written =
-      time-back (putAt at (timeWords t) bytes) (at + 1) t held
+      time-read-back (putAt at (timeWords t) bytes) (at + 1) t held
       (ap (wordAt (putAt at (timeWords t) bytes)) (here at) ∙ written-word at (timeWords t) bytes room 0 (lit< tt) (low-small _))
       (ap (wordAt (putAt at (timeWords t) bytes)) (there at) ∙ written-word at (timeWords t) bytes room 1 (lit< tt) (high-small t held))
     where

@@ -16,7 +16,7 @@ use Rattle.area.specs.declared.state.MaybePress.{MaybePress}
 use Rattle.area.specs.declared.state.StartOffset.{StartOffset}
 use Rattle.area.specs.declared.state.MaybeRect.{MaybeRect}
 use Rattle.area.specs.Pair.{num}
-use Rattle.area.specs.State.{noTarget, noPress}
+use Rattle.area.specs.State.{noTime, noTarget, noPress}
 use Rattle.area.specs.Layout as At
 use Rattle.area.specs.Layout.{Row, rowNo}
 use Rattle.area.specs.Frame.{wordNo, numberNo, timeNo}
@@ -35,7 +35,7 @@ infinity = over one F32.zero
 
 -- "time is from 0 to 2^32"
 abbrev pub isTimeOutside : Float → Bool
-isTimeOutside t = not (le (ofBits binary64 0) t && le t (ofBits binary64 0x41f0_0000_0000_0000))
+isTimeOutside t = not (le noTime t && le t (ofBits binary64 0x41f0_0000_0000_0000))
 
 -- 3: "A number outside an ignored option is not finite or exceeds 1,048,576 in magnitude (`max_size` and points per second may be
 -- +infinity; time is from 0 to 2^32)"

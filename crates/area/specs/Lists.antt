@@ -2,7 +2,7 @@
 -- resets stand among the frames.
 use Prim.Native.Nat.{ℕ, _+_}
 use mathlib.Core.Path.{_≡_}
-use mathlib.Core.Bool.{Bool, true, false}
+use mathlib.Core.Bool.{Bool, true, false, cond}
 use mathlib.Core.List.{List, [], _∷_, _++_}
 use lib.Dec.{eqb}
 use lib.Ieee.{Float, lt, le, eq}
@@ -10,10 +10,11 @@ use Rattle.numbers.specs.Table.{Table}
 use Rattle.numbers.specs.F32.{zero}
 use Rattle.numbers.specs.Scalar.{maxOf}
 use Rattle.area.specs.Pair.{num}
-use Rattle.area.specs.State.{clampedOffset}
+use Rattle.area.specs.State.{noTime, clampedOffset}
 use Rattle.area.specs.Layout as At
 use Rattle.area.specs.Frame.{wordNo, timeNo}
 use Rattle.area.specs.Clock.{resetOf}
+use Rattle.area.specs.Checks.{frameRefusal}
 use Rattle.area.specs.Call.{callUnder}
 use Rattle.area.specs.Steps.{Fed, fedFrame, fedReset, endedAt, stepAt, stateFrom, isAccepted, acceptedFrom}
 use Rattle.area.specs.Moved.{extentOn, isMoved, isMovedByWords}
@@ -136,34 +137,42 @@ EndAlong moved d S (fedFrame table bytes ∷ rest) =
 EndAlong moved d S (fedReset ∷ rest) = EndAlong moved d (resetOf S) rest
 
 -- the distances that are zero
-pub record DistancesAlong (S : State) (frames : List Fed) : Type 0 where
+pub record DistancesAlong (S : State) (feed : List Fed) : Type 0 where
   -- "with rubber band off the stored offset lies in the range"
-  pub in-range : RangeAlong S frames
+  pub in-range : RangeAlong S feed
   -- "a sticking axis that nobody moves shows the list's end": in the narrowest reading of a move, and in the one by words
-  pub on-end : EndAlong isMoved 0 S frames × EndAlong isMoved 1 S frames
-  pub on-end-by-words : EndAlong (λ _ _. isMovedByWords) 0 S frames × EndAlong (λ _ _. isMovedByWords) 1 S frames
+  pub on-end : EndAlong isMoved 0 S feed × EndAlong isMoved 1 S feed
+  pub on-end-by-words : EndAlong (λ _ _. isMovedByWords) 0 S feed × EndAlong (λ _ _. isMovedByWords) 1 S feed
 
 -- ---- the clock, along the steps
 
--- between resets the remembered time never falls: no frame leaves one that is less than the one it was given
-abbrev pub RisesAlong : State → List Fed → Type 0
-RisesAlong S [] = Unit {0}
-RisesAlong S (fedFrame table bytes ∷ rest) =
-    let after = stepAt table S bytes .state in
-    (le (S .«remembered_time») (after .«remembered_time») ≡ true) × RisesAlong after rest
-RisesAlong S (fedReset ∷ rest) = RisesAlong (resetOf S) rest
+-- "The state shall remember the time of its last accepted frame": t is that time, or 0 where there is none since the start or a reset
+abbrev pub RemembersAlong : Float → State → List Fed → Type 0
+RemembersAlong t S [] = S .«remembered_time» ≡ t
+RemembersAlong t S (fedFrame table bytes ∷ rest) =
+    let r = stepAt table S bytes in
+    (S .«remembered_time» ≡ t) × RemembersAlong (cond (isAccepted r) (timeNo bytes At.time) t) (r .state) rest
+RemembersAlong t S (fedReset ∷ rest) = (S .«remembered_time» ≡ t) × RemembersAlong noTime (resetOf S) rest
 
--- up to the next reset no frame's time is less than t
+-- between resets the remembered time never falls: no frame leaves one that is less than the one it was given
+abbrev pub NeverFallsAlong : State → List Fed → Type 0
+NeverFallsAlong S [] = Unit {0}
+NeverFallsAlong S (fedFrame table bytes ∷ rest) =
+    let after = stepAt table S bytes .state in
+    (le (S .«remembered_time») (after .«remembered_time») ≡ true) × NeverFallsAlong after rest
+NeverFallsAlong S (fedReset ∷ rest) = NeverFallsAlong (resetOf S) rest
+
+-- up to the next reset no frame that passes 1 to 5 has a time that is less than t
 abbrev pub NoneLess : Float → List Fed → Type 0
 NoneLess t [] = Unit {0}
-NoneLess t (fedFrame table bytes ∷ rest) = (lt (timeNo bytes At.time) t ≡ false) × NoneLess t rest
+NoneLess t (fedFrame table bytes ∷ rest) = (frameRefusal bytes ≡ 0 → lt (timeNo bytes At.time) t ≡ false) × NoneLess t rest
 NoneLess t (fedReset ∷ rest) = Unit {0}
 
--- the times do not fall, from reset to reset: no frame's is less than that of a frame before it, refused or not
-abbrev pub TimesRise : List Fed → Type 0
-TimesRise [] = Unit {0}
-TimesRise (fedFrame table bytes ∷ rest) = NoneLess (timeNo bytes At.time) rest × TimesRise rest
-TimesRise (fedReset ∷ rest) = TimesRise rest
+-- the times do not fall, from reset to reset: of the frames that pass 1 to 5, none has a time less than that of one before it
+abbrev pub TimesDoNotFall : List Fed → Type 0
+TimesDoNotFall [] = Unit {0}
+TimesDoNotFall (fedFrame table bytes ∷ rest) = (frameRefusal bytes ≡ 0 → NoneLess (timeNo bytes At.time) rest) × TimesDoNotFall rest
+TimesDoNotFall (fedReset ∷ rest) = TimesDoNotFall rest
 
 -- no frame is refused with 12
 abbrev pub None12 : State → List Fed → Type 0
@@ -173,10 +182,11 @@ None12 S (fedFrame table bytes ∷ rest) =
     (eqb (r .outcome .refusal) 12 ≡ false) × None12 (r .state) rest
 None12 S (fedReset ∷ rest) = None12 (resetOf S) rest
 
-pub record ClockAlong (S : State) (frames : List Fed) : Type 0 where
-  pub rises : RisesAlong S frames
-  -- a list whose times do not fall is never refused with 12, one without resets being the case
-  pub never-12 : TimesRise frames → None12 S frames
+pub record ClockAlong (S : State) (feed : List Fed) : Type 0 where
+  pub remembers : RemembersAlong noTime S feed
+  pub never-falls : NeverFallsAlong S feed
+  -- where the times do not fall, from reset to reset, no frame is refused with 12; a list without resets is one case
+  pub never-12 : TimesDoNotFall feed → None12 S feed
 
 -- ---- the claim
 

@@ -9,6 +9,7 @@ use lib.IntN.{pos}
 use lib.Ieee.{Float, binary64, ofBits, ofInt, add, le}
 use Rattle.words.specs.Words.{putAt}
 use Rattle.numbers.specs.Table.{Table}
+use Rattle.area.specs.State.{noTime}
 use Rattle.area.specs.Layout as At
 use Rattle.area.specs.Frame.{timeNo, timeWords}
 use Rattle.area.specs.Clock.{isBack}
@@ -27,29 +28,22 @@ abbrev pub isNoLimit : ℕ → Bool
 isNoLimit limit = eqb limit 0 || ltb 10_000 limit
 
 -- "an increment that is not from 0 to 1", in f64
-abbrev noSeconds : Float
-noSeconds = ofBits binary64 0
-
 abbrev oneSecond : Float
 oneSecond = ofBits binary64 0x3ff0_0000_0000_0000
-
-no-seconds-is : noSeconds ≡ ofInt binary64 (pos 0)
-unfolding ofBits ofInt
-no-seconds-is = refl
 
 one-second-is : oneSecond ≡ ofInt binary64 (pos 1)
 unfolding ofBits ofInt
 one-second-is = refl
 
 abbrev pub isNoIncrement : Float → Bool
-isNoIncrement increment = not (le noSeconds increment && le increment oneSecond)
+isNoIncrement increment = not (le noTime increment && le increment oneSecond)
 
 -- 9: these, "or a frame that by its words, heeded or not, moves an axis by hand or program"
 unfoldable pub runRefusal : List ℕ → Float → ℕ → ℕ
 runRefusal bytes increment limit =
     cond (isNoLimit limit || isNoIncrement increment || isMovedByWords bytes 0 || isMovedByWords bytes 1) 9 0
 
--- "as 9 and after 6": the frame as given goes through 1 to 5, the state through 6
+-- "as 9 and after 6": the frame as given goes through 1 to 5, the state through 6; 12 comes after 9, at the first frame
 unfoldable pub settleRefusal : State → List ℕ → Float → ℕ → ℕ
 settleRefusal state bytes increment limit =
     cond (eqb (refusalOf bytes state) 0) (runRefusal bytes increment limit) (refusalOf bytes state)
@@ -127,6 +121,8 @@ pub record FrameInside (table : Table) (S : State) (bytes : List ℕ) : Type 0 w
   pub refused : isInside (stepAt table S bytes .outcome .refusal) ≡ true
   -- with 3 exactly where its time is not from 0 to 2^32
   pub late : eqb (stepAt table S bytes .outcome .refusal) 3 ≡ isTimeOutside (timeNo bytes At.time)
+  -- with 12 exactly where it is, and less than the remembered one
+  pub back : eqb (stepAt table S bytes .outcome .refusal) 12 ≡ (not (isTimeOutside (timeNo bytes At.time)) && isBack bytes S)
 
 -- it has frames alone
 abbrev pub FramesInside : State → List Fed → Type 0
@@ -145,7 +141,7 @@ pub record RunHolds (table : Table) (S : State) (bytes : List ℕ) (increment : 
   pub not-first : settleRefusal S bytes increment limit ≡ 0 → r .refusal ≡ 3 → 1 ≤ r .used
   -- and 12 at its first frame alone, exactly where that frame's time is less than the remembered one: after it the times do not fall
   pub back : settleRefusal S bytes increment limit ≡ 0 → eqb (r .refusal) 12 ≡ isBack bytes S
-  pub only-first : settleRefusal S bytes increment limit ≡ 0 → r .refusal ≡ 12 → r .used ≡ 0
+  pub only-first : settleRefusal S bytes increment limit ≡ 0 → r .refusal ≡ 12 → r ≡ endedWith 12 S
   pub frames-inside : FramesInside S (framesOf table S bytes increment limit)
   -- it is its frames' steps; so a refusal inside hands back its number with the frames and the state before it
   pub by-steps : r ≡ settledBy table S bytes increment limit

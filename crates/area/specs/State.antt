@@ -1,7 +1,9 @@
 -- `State::default`, document 02's remembered time, and the offset readers.
+use mathlib.Core.Path.{_≡_, refl}
 use mathlib.Core.Bool.{true, false}
 use mathlib.Core.List.{List, [], _∷_}
-use lib.Ieee.{Float, binary64, ofBits}
+use lib.IntN.{pos}
+use lib.Ieee.{Float, binary64, ofBits, ofInt}
 use Rattle.numbers.specs.F32.{minus, zero}
 use Rattle.numbers.specs.Range.{clampOf}
 use Rattle.axis.specs.Physics.{scrollBoundsOf}
@@ -22,6 +24,10 @@ noPress = record { press = MaybePress.Nothing }
 -- "0 in a fresh one"
 abbrev pub noTime : Float
 noTime = ofBits binary64 0
+
+no-time-is : noTime ≡ ofInt binary64 (pos 0)
+unfolding ofBits ofInt
+no-time-is = refl
 
 -- State::default, and the remembered time
 unfoldable pub default : State

@@ -31,8 +31,8 @@ endedAt table S bytes = endOf (frameOf bytes) S (begunAt table S bytes)
 unfoldable pub outputsAt : Table → State → List ℕ → Answer
 outputsAt table S bytes = answerOf (frameOf bytes) S (begunAt table S bytes) (endedAt table S bytes)
 
--- "The checks but 8 are tried in order on the bytes and S, 7 on the bar and handle that `begin` and `end` reach from them": the
--- first that applies, or 0
+-- "The checks but 8 are tried in order on the bytes and S, 7 on the bar and handle that `begin` and `end` reach from them", document 02's 12
+-- among them: the first that applies, or 0
 unfoldable pub checkAt : Table → State → List ℕ → ℕ
 checkAt table S bytes = cond (eqb (refusalBefore7 bytes S) 0) (cond (isPressBlocked (endedAt table S bytes)) 7 0) (refusalBefore7 bytes S)
 

@@ -22,7 +22,7 @@ pub fn clock_refusal(frame: &[u8], state: State) -> u32
     0
 }
 
-// Clears the remembered time and nothing else, so that a frame of any time is accepted again.
+// Clears the remembered time and nothing else, so that 12 refuses no frame until one is accepted.
 pub fn reset(state: State) -> State
     ensures { λ r. ⌜ ResetSays state r ⌝ }
 {

@@ -41,8 +41,6 @@ pub use call::frame_by;
 pub use call::frame_call;
 pub use checks::frame_refusal;
 pub use checks::refusal_before_7;
-pub use checks::refusal_of;
-pub use checks::state_refusal;
 pub use clock::put_time;
 pub use clock::reset;
 pub use clock::reset_lent;

@@ -54,7 +54,7 @@ pub struct State {
     pub scroll_stuck_to_end: [bool; 2],
     pub interact_rect: MaybeRect,
     pub bounced_this_momentum: [bool; 2],
-    // Of the last accepted frame; an earlier one is refused.
+    // Of the last accepted frame, 0 after a reset; an earlier one is refused.
     pub remembered_time: f64,
 }
 

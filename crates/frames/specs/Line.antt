@@ -29,10 +29,11 @@ digitsOf x = digitsOfWord (toBits binary32 x)
 unfoldable pub flagOf : Bool → ℕ
 flagOf b = cond b 49 48
 
--- a refusal in decimal, which has two digits at most
+-- the last decimal digit of n, as ASCII
 abbrev pub digitOf : ℕ → ℕ
 digitOf n = 48 + n % 10
 
+-- a refusal in decimal; it has two digits at most
 unfoldable pub decimalOf : ℕ → List ℕ
 decimalOf n = cond (ltb n 10) (digitOf n ∷ []) (digitOf (n / 10) ∷ digitOf n ∷ [])
 

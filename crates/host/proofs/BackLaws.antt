@@ -20,7 +20,7 @@ use Rattle.area.specs.declared.state.MaybeRect.{MaybeRect}
 use Rattle.host.specs.Record.{numberWord, flagWord, numberWords, flagWords, targetWords, pressWords, maybeRectWords, stateWords, recordOf}
 use Rattle.host.specs.Record.{maybeTargetNo, offsetTargetNo, maybePressNo, startOffsetNo, stateOf, isNoFlag, isDamaged}
 use Rattle.host.specs.Record.{Is32, ArePair, AreFlags, IsTarget, AreTargets, IsPress, ArePresses, IsRect, IsHeld}
-use Rattle.area.proofs.TimeLaws.{low-small, high-small, time-back}
+use Rattle.area.proofs.TimeLaws.{low-small, high-small, time-read-back}
 use Rattle.host.proofs.RecordLaws.{stateParts, state-right}
 use Rattle.host.proofs.ReadLaws.{start, partAt, Reads, reads}
 
@@ -71,10 +71,10 @@ unfolding maybeTargetNo
 target-back s n MaybeTarget.Nothing held read = rw (flag-back s n false (read 0 n (omega arith) (lit< tt) (lit< tt)))
 target-back s n (MaybeTarget.Toward t) held read = rw (
   flag-back s n true (read 0 n (omega arith) (lit< tt) (lit< tt)),
-  time-back s (n + 1) (t .start) (held .0)
+  time-read-back s (n + 1) (t .start) (held .0)
       (read 1 (n + 1) refl (lit< tt) (low-small (toBits binary64 (t .start))))
       (read 2 (n + 1 + 1) (omega arith) (lit< tt) (high-small (t .start) (held .0))),
-  time-back s (n + 3) (t .end) (held .1)
+  time-read-back s (n + 3) (t .end) (held .1)
       (read 3 (n + 3) refl (lit< tt) (low-small (toBits binary64 (t .end))))
       (read 4 (n + 3 + 1) (omega arith) (lit< tt) (high-small (t .end) (held .1))),
   number-back s (n + 5) (t .«target_offset») (held .2) (read 5 (n + 5) refl (lit< tt) (number-small (t .«target_offset») (held .2))),
@@ -136,7 +136,7 @@ written-is-read s held =
       flags-back b 29 (s .«scroll_stuck_to_end») (held .«scroll_stuck_to_end») (part s 10),
       rect-back b 31 (s .«interact_rect») (held .«interact_rect») (part s 11),
       flags-back b 36 (s .«bounced_this_momentum») (held .«bounced_this_momentum») (part s 12),
-      time-back b 38 (s .«remembered_time») (held .«remembered_time»)
+      time-read-back b 38 (s .«remembered_time») (held .«remembered_time»)
           (part s 13 0 38 refl (lit< tt) (low-small (toBits binary64 (s .«remembered_time»))))
           (part s 13 1 39 refl (lit< tt) (high-small (s .«remembered_time») (held .«remembered_time»))),
     )

@@ -27,13 +27,13 @@ use Rattle.area.proofs.TestLaws.{either}
 use Rattle.area.proofs.CallLaws.{step-is-call, refusal-keeps, whole-if-passed, accepted}
 use Rattle.area.proofs.SettlingRunLaws.{whole-of-run}
 use Rattle.area.proofs.RunLaws.{goes, none-used, run-holds}
-use Rattle.area.proofs.ListLaws.{state-after}
+use Rattle.area.proofs.ListLaws.{state-append}
 use Rattle.host.specs.Record.{recordOf, outWords, stateOf, isDamaged, ArePair, IsHeld}
 use Rattle.host.specs.Calls.{FrameLeft, leftBy, frameUnder, freshBytes, resetOn}
 use Rattle.host.specs.SettlingRun.{RunLeft, incrementOf, limitOf, upFrontOn, ranUnder, ranBy, settleUnder}
 use Rattle.host.specs.Lists.{FrameOnSays, SettleOnSays, AreBytes, AreTable, RecordCall, onFrame, onRun, onReset}
 use Rattle.host.specs.Lists.{RecordTold, ofFrame, ofRun, ofReset}
-use Rattle.host.specs.Lists.{callOf, AreCall, AreCalls, AreFrames, RecordRun, ends, framed, settled, cleared}
+use Rattle.host.specs.Lists.{callOf, AreCall, AreCalls, HaveNoRuns, RecordRun, ends, framed, settled, cleared}
 use Rattle.host.specs.Lists.{AnswersAlong, no-more, frame-too, run-too, reset-too, feedOn, RecordWhole, AllRecordLists}
 use Rattle.host.proofs.BackLaws.{written-is-read, written-is-undamaged}
 use Rattle.host.proofs.HeldLaws.{read-is-held}
@@ -180,7 +180,7 @@ same (settled {s} {frame} {table} {run} {used} {r} {calls} {answers} {t} are len
     let frames = framesOf (tableOf table) (stateOf s) frame (incrementOf run) (limitOf run) in
     record {
       answers-same = run-too (o .answers) (o .stands) (subst (λ (S : State). AlongOn S (r .state) calls answers) (o .stands) (rest .answers-same));
-      state-same = subst (λ (S : State). ReachedOn S calls t) (o .stands) (rest .state-same) ∙ sym (state-after (stateOf s) frames _);
+      state-same = subst (λ (S : State). ReachedOn S calls t) (o .stands) (rest .state-same) ∙ sym (state-append (stateOf s) frames _);
       is-record = rest .is-record;
     }
 same (cleared {s} {r} {calls} {answers} {t} says run) is =
@@ -209,28 +209,28 @@ run-of s (onReset ∷ calls) are =
     (ofReset (resetOn s) ∷ rest .0, rest .1, cleared refl (rest .2))
 
 -- ---- the accepted frames alone: every frame that the steps are fed is one that a call can be made on
-record IsLent (used : Table) (bytes : List ℕ) : Type 0 where
+record IsLent (under : Table) (bytes : List ℕ) : Type 0 where
   pub table : List ℕ
   pub are : AreBytes bytes
   pub lent : AreTable table
-  pub same : tableOf table ≡ used
+  pub same : tableOf table ≡ under
 
 abbrev AllLent : List Fed → Type 0
 AllLent [] = Unit {0}
-AllLent (fedFrame used bytes ∷ frames) = IsLent used bytes × AllLent frames
+AllLent (fedFrame under bytes ∷ frames) = IsLent under bytes × AllLent frames
 AllLent (fedReset ∷ frames) = AllLent frames
 
 both-lent : (frames others : List Fed) → AllLent frames → AllLent others → AllLent (frames ++ others)
 both-lent [] others all too = too
-both-lent (fedFrame used bytes ∷ frames) others all too = (all .0, both-lent frames others (all .1) too)
+both-lent (fedFrame under bytes ∷ frames) others all too = (all .0, both-lent frames others (all .1) too)
 both-lent (fedReset ∷ frames) others all too = both-lent frames others all too
 
 accepted-lent : (S : State) (frames : List Fed) → AllLent frames → AllLent (acceptedFrom S frames)
 accepted-lent S [] all = tt
-accepted-lent S (fedFrame used bytes ∷ rest) all =
-    let after = stepAt used S bytes .state in
+accepted-lent S (fedFrame under bytes ∷ rest) all =
+    let after = stepAt under S bytes .state in
     let others = accepted-lent after rest (all .1) in
-    either AllLent (isAccepted (stepAt used S bytes)) (fedFrame used bytes ∷ acceptedFrom after rest) (acceptedFrom after rest) (all .0, others) others
+    either AllLent (isAccepted (stepAt under S bytes)) (fedFrame under bytes ∷ acceptedFrom after rest) (acceptedFrom after rest) (all .0, others) others
 accepted-lent S (fedReset ∷ rest) all = accepted-lent (resetOf S) rest all
 
 module _ (table : List ℕ) (lent : AreTable table) (increment : Float) where
@@ -265,18 +265,18 @@ calls-are (cleared says run) = (tt, calls-are run)
 record CallsOn (frames : List Fed) : Type 0 where
   pub calls : List RecordCall
   pub are : AreCalls calls
-  pub are-frames : AreFrames calls
+  pub no-runs : HaveNoRuns calls
   pub feeds : (S : State) → feedFrom S (map callOf calls) ≡ frames
 
 calls-on : (frames : List Fed) → AllLent frames → CallsOn frames
-calls-on [] all = record { calls = []; are = tt; are-frames = tt; feeds = λ S. refl }
-calls-on (fedFrame used bytes ∷ frames) all =
+calls-on [] all = record { calls = []; are = tt; no-runs = tt; feeds = λ S. refl }
+calls-on (fedFrame under bytes ∷ frames) all =
     let rest = calls-on frames (all .1) in
     let one = all .0 in
     record {
       calls = onFrame bytes (one .table) [] ∷ rest .calls;
       are = ((one .are, one .lent), rest .are);
-      are-frames = rest .are-frames;
+      no-runs = rest .no-runs;
       feeds = λ S i. fedFrame (one .same i) bytes ∷ rest .feeds (stepAt (tableOf (one .table)) S bytes .state) i;
     }
 calls-on (fedReset ∷ frames) all =
@@ -284,7 +284,7 @@ calls-on (fedReset ∷ frames) all =
     record {
       calls = onReset ∷ rest .calls;
       are = (tt, rest .are);
-      are-frames = rest .are-frames;
+      no-runs = rest .no-runs;
       feeds = λ S. ap (λ (feed : List Fed). fedReset ∷ feed) (rest .feeds (resetOf S));
     }
 
@@ -305,7 +305,7 @@ whole-from s is all calls answers t run =
       same-answers = goes .answers-same;
       same-state = goes .state-same;
       same-record = recorded;
-      accepted-alone = (alone .calls, ran .0, subst (RecordRun s (alone .calls) (ran .0)) ends-there (ran .2), alone .are-frames, alone .feeds S);
+      accepted-alone = (alone .calls, ran .0, subst (RecordRun s (alone .calls) (ran .0)) ends-there (ran .2), alone .no-runs, alone .feeds S);
       distances = steps .distances;
       clock = steps .clock;
     }

@@ -67,12 +67,12 @@ abbrev pub AreCalls : List RecordCall → Type 0
 AreCalls [] = Unit {0}
 AreCalls (call ∷ calls) = AreCall call × AreCalls calls
 
--- frame calls and resets alone, and no runs
-abbrev pub AreFrames : List RecordCall → Type 0
-AreFrames [] = Unit {0}
-AreFrames (onFrame frame table out ∷ calls) = AreFrames calls
-AreFrames (onRun frame table run used ∷ calls) = ⊥
-AreFrames (onReset ∷ calls) = AreFrames calls
+-- frame calls and resets, and no runs
+abbrev pub HaveNoRuns : List RecordCall → Type 0
+HaveNoRuns [] = Unit {0}
+HaveNoRuns (onFrame frame table out ∷ calls) = HaveNoRuns calls
+HaveNoRuns (onRun frame table run used ∷ calls) = ⊥
+HaveNoRuns (onReset ∷ calls) = HaveNoRuns calls
 
 -- RecordRun s calls answers t: on the record s the calls gave these answers, and t is the record after them. Each call keeps its own promise
 -- and is given the record that the call before it left.
@@ -90,7 +90,7 @@ pub data RecordRun : List ℕ → List RecordCall → List RecordTold → List �
 -- ---- along the answers
 
 -- each call's answer is the steps': its refusal; and the record of its state and the words of what it puts out or of the frames used, or what
--- the buffers held (`leftBy`, `ranBy`). And the record left stands for the steps' state.
+-- the buffers held (`leftBy`, `ranBy`); of a reset, the record before it with its time cleared (`resetOn`). And the record left stands for the steps' state.
 pub data AnswersAlong : List ℕ → List RecordCall → List Told → List RecordTold → Type 0 where
   no-more : {s : List ℕ} → AnswersAlong s [] [] []
   frame-too : {s frame table out : List ℕ} {a : Answer} {r : FrameLeft} {calls : List RecordCall} {steps : List Told} {answers : List RecordTold}
@@ -117,7 +117,7 @@ pub record RecordWhole (s : List ℕ) (calls : List RecordCall) (answers : List 
   pub same-record : t ≡ recordOf (stateFrom (stateOf s) (feedOn s calls))
   -- "the accepted frames alone reach the same state": frame calls on these frames with the resets in their places, and no other calls, end on
   -- the same record
-  pub accepted-alone : (alone : List RecordCall) × (others : List RecordTold) × RecordRun s alone others t × AreFrames alone
+  pub accepted-alone : (alone : List RecordCall) × (others : List RecordTold) × RecordRun s alone others t × HaveNoRuns alone
       × (feedOn s alone ≡ acceptedFrom (stateOf s) (feedOn s calls))
   -- the range and the end, by area's own law, along the steps, for whose states after each call the records left stand
   pub distances : DistancesAlong (stateOf s) (feedOn s calls)

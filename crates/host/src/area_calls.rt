@@ -1,6 +1,8 @@
 // The calls on a state.
 ghost use mathlib.Core.Path.{_≡_};
 ghost use Rattle.numbers.specs.Table.{tableOf};
+ghost use Rattle.area.specs.Clock.{resetOf};
+ghost use Rattle.host.specs.Record.{stateOf};
 ghost use Rattle.host.specs.Calls as Spec;
 ghost use Rattle.host.specs.Lists.{AllRecordLists, ResetOnSays};
 use crate::read::is_damaged;
@@ -20,10 +22,11 @@ pub extern "C" fn strakobud_fresh(state: &mut [u8; 156])
     put_state(state, State::default());
 }
 
-// Words 38 and 39 alone.
+// Never refused: a damaged record keeps its other words. Words are counted from 0 here.
 #[no_mangle]
 pub extern "C" fn strakobud_reset(state: &mut [u8; 156])
-    ensures { λ _. ⌜ ResetOnSays (now (state .entry)) (now (state .exit)) ⌝ }
+    ensures clears { λ _. ⌜ ResetOnSays (now (state .entry)) (now (state .exit)) ⌝ }
+    ensures stands { λ _. ⌜ stateOf (now (state .exit)) ≡ resetOf (stateOf (now (state .entry))) ⌝ }
 {
     put_time(state, 37, 0.0);
 }

@@ -1,4 +1,4 @@
-// What follows a record's word.
+// What follows a call's word.
 use libc::STDIN_FILENO;
 
 // Answers whether the input was long enough.

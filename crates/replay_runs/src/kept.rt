@@ -6,7 +6,7 @@ use crate::line::print;
 use crate::line::print_decimal;
 use crate::line::print_words;
 
-// Each answers whether the record was whole and its line was written.
+// Each answers whether its input was whole and its line was written.
 pub fn replay_fresh(kept: &mut [u8; 156]) -> bool {
     host::strakobud_fresh(kept);
     print(b"fresh");

@@ -1,9 +1,9 @@
 // Runs stored calls of the library that a panel links: the load of a table, settling runs, and lists of frames and resets;
-// and prints what each answers and leaves in its buffers. A record on standard input begins with a word: 1 for a load, 2 for
-// a run by T, 3 for a run under the table as the loads before it left it, zeros at first; and on one record that is kept,
-// zeros at first, 4 for a fresh one, 5 for a frame, 6 for a reset, 7 for one that is given. The file of that name says what
-// follows. Any other word, or a record cut short, ends the program. What is printed is held to the answers of an independent
-// program (oracle/).
+// and prints what each answers and leaves in the state's record, and of a run in used. A call on standard input begins with a
+// word: 1 for a load, 2 for a run by T, 3 for a run under the table as the loads before it left it, zeros at first; and on one
+// state's record that is kept, zeros at first, 4 for a fresh one, 5 for a frame, 6 for a reset, 7 for one that is given. The
+// files load, run and kept say what follows. Any other word, or a call cut short, ends the program. What is printed is held to
+// the answers of an independent program (oracle/).
 mod input;
 mod kept;
 mod line;
@@ -18,7 +18,7 @@ use libc::STDIN_FILENO;
 use load::replay_load;
 use run::replay_run;
 
-// Answers whether another record may follow.
+// Answers whether another call may follow.
 fn replay_one(room: &mut [u8], table: &mut [u8; 8200], kept: &mut [u8; 156]) -> bool {
     let mut word = [0u8; 4];
     if io::read_full(STDIN_FILENO, &mut word) < 4 {

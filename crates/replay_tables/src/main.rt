@@ -1,7 +1,8 @@
 // Runs stored loads of tables and calls under them, and prints each with its answer. A record on standard input begins
 // with a word: 1 for a load, 2 for an exp, 3 for a step, 4 for a frame, 5 for a reset; the file of that name says what
-// follows, and a reset stands beside the frame. A table that loads serves from then on, and T at first and after one that is
-// refused. Any other word, or a record cut short, ends the run. What is printed is held to the answers of an independent program (oracle/).
+// follows, and a reset stands beside the frame. A table that loads serves from then on, and T at first and after one that
+// is refused. Any other word, or a record cut short, ends the run. What is printed is held to the answers of an independent
+// program (oracle/).
 mod exp;
 mod frame;
 mod line;
