@@ -43,8 +43,9 @@
  *   shown. Run the same frame again without its input, that is with 0 in words 15, 17, 54, 57 to 62, 64, 65, 74, 79, 86,
  *   87, 91 and 98. Nothing in it moves the list, and where it is accepted, with stick_to_end set, a list that stuck
  *   stands on its end.
- * - After 12 the clock has run backwards, and until the old time comes again every frame is refused, the one without
- *   input too. Either go on with a time that does not fall, or call strakobud_reset and run the frame again.
+ * - After 12 the clock was set back, or one frame was ahead of it. Until that time comes again every frame is refused, the
+ *   one without input too, and no row that arrives is shown. Best go on with a time that does not fall, adding to the
+ *   clock what it lost. Or call strakobud_reset and run the frame again; a scroll target under way then stands, see there.
  */
 #ifndef STRAKOBUD_H
 #define STRAKOBUD_H
@@ -73,8 +74,9 @@ void strakobud_fresh(uint8_t state[STRAKOBUD_STATE_BYTES]);
 
 /* For a clock that was set back: the remembered time becomes 0, so that 12 refuses no frame until one is accepted. It writes
  * words 38 and 39 and nothing else, and is never refused, also on a state that 6 refuses. A scroll target under way keeps
- * its start and end on the old clock: before that start it stands, and a drag, a taken wheel turn or a press on the bar
- * gives it up. */
+ * its start and end on the old clock: before that start it stands, wherever the list is, and once that time comes, however
+ * late, it moves the list to its goal. A drag, a taken wheel turn or a press on the bar gives it up; a program ends it by an
+ * animated request (word 26) for a move of less than 1, by which it arrives in the next frame. */
 void strakobud_reset(uint8_t state[STRAKOBUD_STATE_BYTES]);
 
 /* Runs one frame on the state. 0: the state is the next one, and out holds what the frame puts out besides it.
@@ -127,7 +129,8 @@ uint32_t strakobud_frame_by(uint8_t state[STRAKOBUD_STATE_BYTES], const uint8_t 
  * once the time is above 2^32, or 12, at the first frame alone, and no other. If that was the first one, with 8 or 12, 0 are
  * used and the state is as given. With used set to 0 before the call it is right after every answer. 0 with used below the
  * limit: the list rests; with used equal to the limit it may or may not. A frame that was cleared of its input, as above,
- * moves no axis. The state remembers the time of the run's last accepted frame, below which the next call's may not lie.
+ * moves no axis. The state then remembers the time of the run's last accepted frame, and a frame at the panel's own earlier time
+ * is 12; where only the number is wanted, run on a copy of the state.
  *
  * Rest is not stillness. A held overscroll rests with the velocity that it keeps. With rubber band off, a list that has
  * run into its end stands there, and rests in the next frame if its bar shows (its factor is not 0), else once its

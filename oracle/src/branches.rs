@@ -1,4 +1,5 @@
-//! How often each branch of `begin`, `end`, exp, a table's load, a run, the clock and a bad word is met; without the feature `branches` nothing is counted.
+//! How often each branch of `begin`, `end`, exp, a table's load, a run, the clock and a bad word is met; without the feature `branches`
+//! nothing is counted.
 
 macro_rules! branches {
     ($($branch:ident $words:literal)*) => {

@@ -1,6 +1,7 @@
 //! Document 02's K5, "The clock may not run backwards": the time that a state remembers. The Rust knows nothing of it.
 //!
-//! The Rust is handed egui's state alone, which is the first 37 words of a record, and no frame that 12 refuses: document 02's "comparison
+//! The Rust is handed egui's state alone, which is the first 37 words of a record, and no frame that 12 refuses, but to count what lies
+//! behind 12: document 02's "comparison
 //! with the oracle leaves out the remembered time and frames refused with 12". The other two words of a record and 12 itself are held to what
 //! is written here, from the document alone; after a reset the Rust judges the same frame.
 

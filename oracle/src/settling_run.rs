@@ -108,7 +108,7 @@ fn grounds_of_9(bytes: &[u8], increment: f64, limit: u32) -> Vec<Branch> {
 }
 
 /// Document 02: "ends at the first frame that wants no repaint, or at the limit"; what is handed over passed all up front. 12 is not among
-/// that: it is the first frame's own, as 7 and 8 are any frame's.
+/// that: it is the first frame's own, as 8 is any frame's.
 pub fn frames_until_rest(state: Remembering, bytes: &[u8], increment: f64, limit: u32) -> Settled {
     let mut frame = bytes.to_vec();
     let mut settled = Settled {

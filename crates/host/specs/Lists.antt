@@ -90,7 +90,8 @@ pub data RecordRun : List ℕ → List RecordCall → List RecordTold → List �
 -- ---- along the answers
 
 -- each call's answer is the steps': its refusal; and the record of its state and the words of what it puts out or of the frames used, or what
--- the buffers held (`leftBy`, `ranBy`); of a reset, the record before it with its time cleared (`resetOn`). And the record left stands for the steps' state.
+-- the buffers held (`leftBy`, `ranBy`); of a reset, the record before it with its time cleared (`resetOn`). And the record left stands for the
+-- steps' state.
 pub data AnswersAlong : List ℕ → List RecordCall → List Told → List RecordTold → Type 0 where
   no-more : {s : List ℕ} → AnswersAlong s [] [] []
   frame-too : {s frame table out : List ℕ} {a : Answer} {r : FrameLeft} {calls : List RecordCall} {steps : List Told} {answers : List RecordTold}
@@ -101,7 +102,8 @@ pub data AnswersAlong : List ℕ → List RecordCall → List Told → List Reco
       → AnswersAlong (r .state) calls steps answers
       → AnswersAlong s (onRun frame table run used ∷ calls) (Told.ofRun a ∷ steps) (ofRun r ∷ answers)
   reset-too : {s r : List ℕ} {a : State} {calls : List RecordCall} {steps : List Told} {answers : List RecordTold}
-      → r ≡ resetOn s → stateOf r ≡ a → AnswersAlong r calls steps answers → AnswersAlong s (onReset ∷ calls) (Told.ofReset a ∷ steps) (ofReset r ∷ answers)
+      → r ≡ resetOn s → stateOf r ≡ a → AnswersAlong r calls steps answers
+      → AnswersAlong s (onReset ∷ calls) (Told.ofReset a ∷ steps) (ofReset r ∷ answers)
 
 -- ---- the claim
 
