@@ -76,7 +76,7 @@ void strakobud_fresh(uint8_t state[STRAKOBUD_STATE_BYTES]);
  * words 38 and 39 and nothing else, and is never refused, also on a state that 6 refuses. A scroll target under way keeps
  * its start and end on the old clock: before that start it stands, wherever the list is, and once that time comes, however
  * late, it moves the list to its goal. A drag, a taken wheel turn or a press on the bar gives it up; a program ends it by an
- * animated request (word 26) for a move of less than 1, by which it arrives in the next frame. */
+ * animated request (word 26) for a move other than 0 and less than 1, by which it arrives in the next frame. */
 void strakobud_reset(uint8_t state[STRAKOBUD_STATE_BYTES]);
 
 /* Runs one frame on the state. 0: the state is the next one, and out holds what the frame puts out besides it.
