@@ -133,6 +133,22 @@ static void set_back(uint8_t *state, const uint8_t *frame)
     show("after a reset", strakobud_frame(state, frame, STRAKOBUD_FRAME_BYTES, out), state);
 }
 
+/* A turn of the wheel at the end of a list that scrolls over 300 points: does the list take it, or what encloses the list? */
+static void turn(const char *what, float delta)
+{
+    uint8_t call[52] = {0}, out[16];
+    put_number(call, 2, 300); /* bounds 0 to 300 */
+    put_number(call, 3, 100); /* extent */
+    put_number(call, 4, 1); /* decay_time */
+    put_number(call, 5, 1); /* stop_distance */
+    put_number(call, 7, 300); /* offset */
+    put_number(call, 9, delta);
+    put_word(call, 10, 2); /* of a wheel */
+    put_word(call, 11, 1); /* something encloses the list */
+    uint32_t refusal = strakobud_wheel(call, out);
+    printf("a turn %s: refusal %" PRIu32 ", %s\n", what, refusal, word_at(out, 4) ? "taken" : "left to the parent");
+}
+
 int main(void)
 {
     uint8_t state[STRAKOBUD_STATE_BYTES], frame[STRAKOBUD_FRAME_BYTES], out[STRAKOBUD_OUT_BYTES];
@@ -162,5 +178,7 @@ int main(void)
     flick(state, frame);
     settle(state, frame);
     set_back(state, frame);
+    turn("past the end", 8);
+    turn("back", -8);
     return 0;
 }

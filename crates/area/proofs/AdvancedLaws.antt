@@ -17,7 +17,7 @@ use Rattle.area.specs.Frame.{wordNo, numberNo, flagNo, timeNo, timeWords
 use Rattle.area.specs.Checks.{isHeeded, isTimeOutside, shows2, shows3, shows4, shows5, isShown, showsNo, anyShows, frameRefusal}
 use Rattle.area.specs.Moved.{wordOn, isMovedByWords}
 use Rattle.area.specs.SettlingRun.{advanced}
-use Rattle.area.proofs.TestLaws.{or-right, and-left, and-right, either, turned-true}
+use Rattle.numbers.proofs.TestLaws.{or-right, and-left, and-right, either, turned-true}
 use Rattle.area.proofs.PassedLaws.{none-shows, unshown}
 
 -- words other than 52 and 53

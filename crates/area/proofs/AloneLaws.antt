@@ -11,7 +11,7 @@ use Rattle.area.specs.Layout.{Row, kind, layout, rows, rowAt, rowNo}
 use Rattle.area.specs.Frame.{wordNo, numberNo, timeNo}
 use Rattle.area.specs.Checks.{isHeeded, isShown, showsNo, anyShows}
 use Rattle.area.specs.Sweep.{SameWords, lowestOf, sweptOf, SweepHolds}
-use Rattle.area.proofs.TestLaws.{and-left, and-right}
+use Rattle.numbers.proofs.TestLaws.{and-left, and-right}
 use Rattle.area.proofs.WalkLaws.{up-to-is, on-the-way, swept-refusal}
 
 -- ---- each row names words up to its own

@@ -25,7 +25,7 @@ use Rattle.area.specs.declared.state.State.{State}
 use Rattle.area.specs.declared.frame.Frame.{Frame}
 use Rattle.area.specs.declared.end.Ended.{Ended}
 use Rattle.area.specs.declared.outcome.Answer.{Answer}
-use Rattle.area.proofs.TestLaws.{and-left, and-right, both-zero}
+use Rattle.numbers.proofs.TestLaws.{and-left, and-right, both-zero}
 use Rattle.area.proofs.PassedLaws.{firstOf}
 
 -- ---- with the first refusal r of checks 1 to 6 and 12, whether a press is blocked, and whether what is put out is finite

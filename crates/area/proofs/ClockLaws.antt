@@ -19,7 +19,7 @@ use Rattle.area.specs.Checks.{isTimeOutside, frameRefusal, refusalOf}
 use Rattle.area.specs.Steps.{Fed, fedFrame, fedReset, stepAt, isAccepted}
 use Rattle.area.specs.Lists.{RemembersAlong, NeverFallsAlong, NoneLess, TimesDoNotFall, None12, ClockAlong}
 use Rattle.area.specs.declared.state.State.{State}
-use Rattle.area.proofs.TestLaws.{and-left}
+use Rattle.numbers.proofs.TestLaws.{and-left}
 use Rattle.area.proofs.OrderLaws.{of-not-below, at-most-itself}
 use Rattle.area.proofs.PassedLaws.{unrefused, passed-time}
 use Rattle.area.proofs.CallLaws.{twelve, accepted, refusal-keeps}

@@ -49,7 +49,7 @@ use Rattle.area.specs.declared.bar.Barred.{Barred}
 use Rattle.area.specs.declared.«final_clamp».FinalClamp.{FinalClamp}
 use Rattle.area.specs.declared.end.AxisEnded.{AxisEnded}
 use Rattle.area.specs.declared.end.Extents.{Extents}
-use Rattle.area.proofs.TestLaws.{or-left, not-left, not-right, and-both, chosen}
+use Rattle.numbers.proofs.TestLaws.{or-left, not-left, not-right, and-both, chosen}
 use Rattle.area.proofs.OrderLaws.{endAt, equals-itself, clamps-to-end, clamp-keeps-end, end-is-larger, end-sticks}
 use Rattle.area.proofs.StuckLaws.{BegunStuck, begun-stuck, adjustment-stuck, turned-stuck}
 use Rattle.area.proofs.CallLaws.{accepted}

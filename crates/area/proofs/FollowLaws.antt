@@ -7,7 +7,7 @@ use Rattle.area.specs.Follow.{isNear, arrived, movedBy, movedTowards, ap
 use Rattle.area.specs.declared.state.MaybeTarget.{MaybeTarget}
 use Rattle.area.specs.declared.state.ScrollingToTarget.{ScrollingToTarget}
 use Rattle.area.specs.declared.prepared.AxisBegun.{AxisBegun}
-use Rattle.area.proofs.TestLaws.{either}
+use Rattle.numbers.proofs.TestLaws.{either}
 
 pub record KeepsFlags (b after : AxisBegun) : Type 0 where
   pub «rubber_banding» : after .«rubber_banding» ≡ b .«rubber_banding»

@@ -22,7 +22,7 @@ use Rattle.area.specs.Moved.{isMovedByWords}
 use Rattle.area.specs.SettlingRun.{isNoLimit, isNoIncrement, runRefusal, settleRefusal, advanced, isInside, FrameInside}
 use Rattle.area.specs.declared.state.State.{State}
 use Rattle.area.specs.declared.outcome.Answer.{Answer}
-use Rattle.area.proofs.TestLaws.{not-left, not-right}
+use Rattle.numbers.proofs.TestLaws.{not-left, not-right}
 use Rattle.area.proofs.CallLaws.{called, step-is-call, outputs-accepted, twelve, accepted, whole-if-passed}
 use Rattle.area.proofs.PassedLaws.{unrefused, passed-time}
 use Rattle.area.proofs.MovedLaws.{unblocked}

@@ -1,4 +1,3 @@
-pub mod TestLaws
 pub mod PairLaws
 pub mod SweepLaws
 pub mod WalkLaws
@@ -14,6 +13,7 @@ pub mod StuckLaws
 pub mod EndLaws
 pub mod ZeroLaws
 pub mod PassedLaws
+pub mod WheelTurnLaws
 pub mod CallLaws
 pub mod MovedLaws
 pub mod WithoutInputLaws

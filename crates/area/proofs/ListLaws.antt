@@ -16,7 +16,7 @@ use Rattle.area.specs.Lists.{RangeAlong, EndAlong, DistancesAlong, Whole
 use Rattle.area.specs.declared.state.State.{State}
 use Rattle.area.specs.declared.outcome.Answer.{Answer}
 use Rattle.area.specs.declared.«settling_run».Settled.{Settled}
-use Rattle.area.proofs.TestLaws.{chosen}
+use Rattle.numbers.proofs.TestLaws.{chosen}
 use Rattle.area.proofs.CallLaws.{step-is-call, refusal-keeps}
 use Rattle.area.proofs.RangeLaws.{in-range}
 use Rattle.area.proofs.EndLaws.{StaysOnEnd, stays-x, stays-y}

@@ -14,7 +14,7 @@ use Rattle.axis.proofs.WordLaws.{word-outside}
 use Rattle.area.specs.Layout.{sizeOrInfinity, pointsPerSecond, size}
 use Rattle.area.specs.Checks.{infinity, shows2, shows3, shows4, shows5}
 use Rattle.area.specs.Marks.{shownOf}
-use Rattle.area.proofs.TestLaws.{or-false, and-true}
+use Rattle.numbers.proofs.TestLaws.{or-false, and-true}
 use Rattle.area.proofs.InfinityLaws.{word-not-infinity}
 
 -- at most the limit, a pattern is that of a number from 0 to it

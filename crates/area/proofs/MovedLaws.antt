@@ -50,8 +50,8 @@ use Rattle.area.specs.declared.handle.BarSpace.{BarSpace}
 use Rattle.area.specs.declared.handle.Track.{Track}
 use Rattle.area.specs.declared.bar.Barred.{Barred}
 use Rattle.area.specs.declared.end.Extents.{Extents}
-use Rattle.area.proofs.TestLaws as Test
-use Rattle.area.proofs.TestLaws.{neither, not-left, not-right, fails-left, fails-right, turned-true, turned-false, either}
+use Rattle.numbers.proofs.TestLaws as Test
+use Rattle.numbers.proofs.TestLaws.{neither, not-left, not-right, fails-left, fails-right, turned-true, turned-false, either}
 use Rattle.area.proofs.ZeroLaws.{IsZero, add-zeros, mul-zero, neg-zero, equals-zero, of-no-other, no-other-than-zero}
 use Rattle.area.proofs.CallLaws.{accepted}
 use Rattle.area.proofs.PassedLaws.{multiplier-finite}

@@ -1,10 +1,7 @@
 -- The order of finite numbers, the clamp to the range of offsets, and the list's end. Assumes nothing.
 use mathlib.Core.Path.{_≡_, refl, sym, ap, _∙_}
-use mathlib.Core.Bool.{Bool, true, false, cond, _&&_, _||_, true≢false, false≢true}
-use Prim.Native.Nat.{ℕ, _*_}
-use borrow.Author.Tests.{eq-eqb}
-use lib.Dec.{eqb}
-use lib.Ieee.{Float, nan, inf, fin, ofBits, up, down, lt, le, eq}
+use mathlib.Core.Bool.{Bool, true, false, cond, _||_, true≢false}
+use lib.Ieee.{Float, ofBits, lt, le, eq}
 use lib.Ieee.Bits.{is-true}
 use Rattle.numbers.specs.F32.{zero}
 use Rattle.numbers.specs.Scalar.{maxOf, isFinite}
@@ -12,26 +9,19 @@ use Rattle.numbers.specs.Range.{clampOf}
 use Rattle.axis.specs.Physics.{scrollBoundsOf}
 use Rattle.area.specs.State.{clampedTo}
 use Rattle.numbers.proofs.WithinLaws as Numbers
-use Rattle.area.proofs.TestLaws.{or-left, or-right, and-both, chosen, either}
+use Rattle.numbers.proofs.ClampLaws as Clamp
+use Rattle.numbers.proofs.ClampLaws.{finite-number, clamp-number, clamp-between}
+use Rattle.numbers.proofs.TestLaws.{or-left, or-right, chosen}
 
--- ---- of two finite numbers one is at or below the other
+-- ---- of finite numbers
 pub of-not-below : (x y : Float) → isFinite x ≡ true → isFinite y ≡ true → lt x y ≡ false → le y x ≡ true
-of-not-below x y p q h = is-true (le y x) (Numbers.of-not-below x y p q h)
-
--- ---- what else of the order is asked
-itself : (a : ℕ) → (eqb a a && true) ≡ true
-itself a = and-both (eqb a a) true (eq-eqb a a refl) refl
+of-not-below x y p q h = Clamp.of-not-below x y (finite-number x p) (finite-number y q) h
 
 pub equals-itself : (x : Float) → isFinite x ≡ true → eq x x ≡ true
-unfolding isFinite eq
-equals-itself nan p = absurd (false≢true p)
-equals-itself (inf s) p = absurd (false≢true p)
-equals-itself (fin true m e) p = itself (m * up e * down e)
-equals-itself (fin false m e) p = itself (m * up e * down e)
+equals-itself x p = Clamp.equals-itself x (finite-number x p)
 
 pub at-most-itself : (x : Float) → isFinite x ≡ true → le x x ≡ true
-unfolding le
-at-most-itself x p = or-right (lt x x) (eq x x) (equals-itself x p)
+at-most-itself x p = Clamp.at-most-itself x (finite-number x p)
 
 of-below : (x y : Float) → lt x y ≡ true → le x y ≡ true
 of-below x y h = is-true (le x y) (Numbers.le-of-lt x y h)
@@ -52,30 +42,16 @@ zero-finite = refl
 abbrev pub IsWithin : Float → Float → Type 0
 IsWithin offset maxOffset = (le zero offset ≡ true) × (le offset (maxOf maxOffset zero) ≡ true)
 
-range-ordered : (maxOffset : Float) → le zero (maxOf maxOffset zero) ≡ true
+pub range-ordered : (maxOffset : Float) → le zero (maxOf maxOffset zero) ≡ true
 unfolding maxOf
 range-ordered maxOffset =
     chosen (λ (x : Float). le zero x ≡ true) (lt zero maxOffset) maxOffset zero (of-below zero maxOffset) (λ h. at-most-itself zero zero-finite)
 
-range-finite : (maxOffset : Float) → isFinite maxOffset ≡ true → isFinite (maxOf maxOffset zero) ≡ true
-unfolding maxOf
-range-finite maxOffset p = either (λ (x : Float). isFinite x ≡ true) (lt zero maxOffset) maxOffset zero p zero-finite
-
-within-bounds : (offset min max : Float) → isFinite min ≡ true → isFinite max ≡ true → le min max ≡ true → (below above : Bool)
-    → lt offset min ≡ below → lt max offset ≡ above
-    → isFinite (cond below min (cond above max offset)) ≡ true
-    → (le min (cond below min (cond above max offset)) ≡ true) × (le (cond below min (cond above max offset)) max ≡ true)
-within-bounds offset min max p q o true above h k n = (at-most-itself min p, o)
-within-bounds offset min max p q o false true h k n = (o, at-most-itself max q)
-within-bounds offset min max p q o false false h k n = (of-not-below offset min n p h, of-not-below max offset q n k)
-
 -- an offset that is clamped and finite lies there
-pub clamped-within : (offset maxOffset : Float) → isFinite maxOffset ≡ true → isFinite (clampedTo offset maxOffset) ≡ true
-    → IsWithin (clampedTo offset maxOffset) maxOffset
-unfolding clampedTo scrollBoundsOf clampOf
-clamped-within offset maxOffset p n =
-    within-bounds offset zero (maxOf maxOffset zero) zero-finite (range-finite maxOffset p) (range-ordered maxOffset) (lt offset zero)
-    (lt (maxOf maxOffset zero) offset) refl refl n
+pub clamped-within : (offset maxOffset : Float) → isFinite (clampedTo offset maxOffset) ≡ true → IsWithin (clampedTo offset maxOffset) maxOffset
+unfolding clampedTo scrollBoundsOf
+clamped-within offset maxOffset n =
+    clamp-between offset zero (maxOf maxOffset zero) (clamp-number offset zero (maxOf maxOffset zero) n) (range-ordered maxOffset)
 
 -- ---- where the clamp puts the maximum offset: 0 if it is below 0, else itself, a zero of either sign too
 abbrev pub endAt : Float → Float

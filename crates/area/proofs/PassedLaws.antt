@@ -6,14 +6,14 @@ use mathlib.Core.List.{List}
 use Prim.Native.Nat.{ℕ, zero, suc, _+_, _<_, _≤_}
 use native.Mathlib.Nat.{eq-or-lt-of-le}
 use native.Mathlib.Omega.{arith}
-use borrow.Author.Tests.{not-false}
 use lib.Dec.{eqb}
 use lib.ListN.{length}
 use lib.Ieee.{Float, binary64, ofBits, lt, le}
 use lib.Ieee.Bits.{ofBits-fits}
 use Rattle.numbers.specs.F32 as F32
-use Rattle.numbers.specs.Scalar.{absOf, minOf, isFinite}
-use Rattle.axis.specs.Limits.{limit, exceedsLimit}
+use Rattle.numbers.specs.Scalar.{minOf, isFinite}
+use Rattle.axis.specs.Limits.{exceedsLimit}
+use Rattle.axis.proofs.LimitLaws.{within-limit}
 use Rattle.area.specs.Layout as At
 use Rattle.area.specs.Layout.{layout, rows, rowAt, rowNo}
 use Rattle.area.specs.Frame.{numberNo, timeNo, hostOf, frameOf}
@@ -21,7 +21,7 @@ use Rattle.area.specs.Checks.{isHeeded, isTimeOutside, shows3, shows4, i
 use Rattle.area.specs.Begin.{tenth, dtOf}
 use Rattle.area.specs.Corners.{FrameTimesHold}
 use Rattle.area.specs.declared.state.State.{State}
-use Rattle.area.proofs.TestLaws.{not-left, not-right, either, both-zero}
+use Rattle.numbers.proofs.TestLaws.{not-left, not-right, either, both-zero}
 use Rattle.area.proofs.OrderLaws.{of-not-below}
 
 -- ---- none of checks 2 to 5 has shown
@@ -58,21 +58,36 @@ pub unshown : (bytes : List ℕ) → frameRefusal bytes ≡ 0
 unfolding frameRefusal
 unshown bytes h = none-first (eqb (length bytes) 416) (anyShows 2 bytes 104) (anyShows 3 bytes 104) (anyShows 4 bytes 104) (anyShows 5 bytes 104) h
 
-within-limit : (x : Float) → exceedsLimit x ≡ false → isFinite x ≡ true
-unfolding exceedsLimit
-within-limit x h = not-false (isFinite x) (not-left (not (isFinite x)) (lt limit (absOf x)) h)
-
 -- check 3 of a row that asks for a number, outside any option
-number-row : (x : Float) → (exceedsLimit x || false || false) ≡ false → isFinite x ≡ true
-number-row x h = within-limit x (not-left (exceedsLimit x) false (not-left (exceedsLimit x || false) false h))
+limited-row : (x : Float) → (exceedsLimit x || false || false) ≡ false → exceedsLimit x ≡ false
+limited-row x h = not-left (exceedsLimit x) false (not-left (exceedsLimit x || false) false h)
 
--- ---- the wheel's multipliers are finite
+number-row : (x : Float) → (exceedsLimit x || false || false) ≡ false → isFinite x ≡ true
+number-row x h = within-limit x (limited-row x h)
+
+-- ---- the wheel's deltas and multipliers do not exceed the limit
+pub record WheelLimited (bytes : List ℕ) : Type 0 where
+  pub multiplier-x : exceedsLimit (numberNo bytes At.wheelScrollMultiplier) ≡ false
+  pub multiplier-y : exceedsLimit (numberNo bytes (At.wheelScrollMultiplier + 1)) ≡ false
+  pub delta-x : exceedsLimit (numberNo bytes At.smoothScrollDelta) ≡ false
+  pub delta-y : exceedsLimit (numberNo bytes (At.smoothScrollDelta + 1)) ≡ false
+
+pub wheel-limited : (bytes : List ℕ) → frameRefusal bytes ≡ 0 → WheelLimited bytes
+unfolding showsNo isHeeded isShown shows3 rowNo rowAt rows layout
+wheel-limited bytes h =
+    let third = unshown bytes h .1 in record {
+      multiplier-x = limited-row _ (none-shows 3 bytes 104 21 third (omega arith));
+      multiplier-y = limited-row _ (none-shows 3 bytes 104 22 third (omega arith));
+      delta-x = limited-row _ (none-shows 3 bytes 104 63 third (omega arith));
+      delta-y = limited-row _ (none-shows 3 bytes 104 64 third (omega arith));
+    }
+
+-- the multipliers are finite
 pub multiplier-finite : (bytes : List ℕ) (S : State) → refusalOf bytes S ≡ 0
     → (isFinite (numberNo bytes At.wheelScrollMultiplier) ≡ true) × (isFinite (numberNo bytes (At.wheelScrollMultiplier + 1)) ≡ true)
-unfolding showsNo isHeeded isShown shows3 rowNo rowAt rows layout
 multiplier-finite bytes S h =
-    let third = unshown bytes (unrefused bytes S h .0) .1 in
-    (number-row _ (none-shows 3 bytes 104 21 third (omega arith)), number-row _ (none-shows 3 bytes 104 22 third (omega arith)))
+    let limited = wheel-limited bytes (unrefused bytes S h .0) in
+    (within-limit _ (limited .multiplier-x), within-limit _ (limited .multiplier-y))
 
 -- ---- the time is from 0 to 2^32
 pub passed-time : (bytes : List ℕ) → frameRefusal bytes ≡ 0 → isTimeOutside (timeNo bytes At.time) ≡ false

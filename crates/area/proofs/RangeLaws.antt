@@ -39,7 +39,7 @@ use Rattle.area.specs.declared.«wheel_turn».WheelHeard.{WheelHeard}
 use Rattle.area.specs.declared.«wheel_turn».Turned.{Turned}
 use Rattle.area.specs.declared.end.Extents.{Extents}
 use Rattle.area.specs.declared.end.Ended.{Ended}
-use Rattle.area.proofs.TestLaws.{fails-left, either}
+use Rattle.numbers.proofs.TestLaws.{fails-left, either}
 use Rattle.area.proofs.OrderLaws.{IsWithin, clamped-within}
 use Rattle.area.proofs.FollowLaws.{followed-keeps}
 use Rattle.area.proofs.CallLaws.{IsFiniteOn, accepted}
@@ -115,26 +115,24 @@ turned-unbanded f d before space extent wheel m rubberBanding off p =
 
 -- ---- the final clamp
 final-within : (m : AxisMotion) (rubberBanding : Bool) (maxOffset : Float) (stick adjusted : Bool) → rubberBanding ≡ false
-    → isFinite maxOffset ≡ true
     → isFinite (finalClampOf m rubberBanding maxOffset stick adjusted .offset) ≡ true
     → IsWithin (finalClampOf m rubberBanding maxOffset stick adjusted .offset) maxOffset
 unfolding finalClampOf pickOf
-final-within m true maxOffset stick adjusted p n q = absurd (true≢false p)
-final-within m false maxOffset stick adjusted p n q = clamped-within (m .offset) maxOffset n q
+final-within m true maxOffset stick adjusted p q = absurd (true≢false p)
+final-within m false maxOffset stick adjusted p q = clamped-within (m .offset) maxOffset q
 
 -- one axis through `end`
 finished-within : (f : Frame) (d e : ℕ) (before : AxisBefore) (x : Extents) (adjusted : Adjusted) (turned : Turned) → TurnedUnbanded turned
-    → isFinite (x .this .«max_offset») ≡ true
     → isFinite (finishedOf f d e before x adjusted turned .offset) ≡ true → IsWithin (finishedOf f d e before x adjusted turned .offset) (x .this .«max_offset»)
 unfolding finishedOf endedBy
-finished-within f d e before x adjusted turned p n q = final-within _ (turned .«rubber_banding») (x .this .«max_offset») _ _ p n q
+finished-within f d e before x adjusted turned p q = final-within _ (turned .«rubber_banding») (x .this .«max_offset») _ _ p q
 
 ended-within : (f : Frame) (d e : ℕ) (before : AxisBefore) (space : AxisSpace) (x : Extents) (wheel : WheelHeard) (b : AxisBegun)
     → f .style .kinetic .«rubber_band» ≡ false → BegunUnbanded b
-    → isFinite (x .this .«max_offset») ≡ true → isFinite (axisEndedOf f d e before space x wheel b .offset) ≡ true
+    → isFinite (axisEndedOf f d e before space x wheel b .offset) ≡ true
     → IsWithin (axisEndedOf f d e before space x wheel b .offset) (x .this .«max_offset»)
 unfolding axisEndedOf
-ended-within f d e before space x wheel b off p n q = finished-within f d e before x _ _ (turned-unbanded f d before space (x .this) wheel _ _ off p) n q
+ended-within f d e before space x wheel b off p q = finished-within f d e before x _ _ (turned-unbanded f d before space (x .this) wheel _ _ off p) q
 
 -- ---- an accepted frame
 
@@ -149,12 +147,12 @@ IsEndedWithin e d = IsWithin (endedOn e d .offset) (extentOn e d .«max_offset»
 within-x : (table : Table) (f : Frame) (s : State) → f .style .kinetic .«rubber_band» ≡ false → IsFiniteOn (endOf f s (beginOf table f s)) 0
     → IsEndedWithin (endOf f s (beginOf table f s)) 0
 unfolding endOf beginOf preparedOf
-within-x table f s off n = ended-within f 0 1 _ _ _ _ _ off (begun-unbanded table f s 0 _ _ _ off) (n .maximum) (n .offset)
+within-x table f s off n = ended-within f 0 1 _ _ _ _ _ off (begun-unbanded table f s 0 _ _ _ off) (n .offset)
 
 within-y : (table : Table) (f : Frame) (s : State) → f .style .kinetic .«rubber_band» ≡ false → IsFiniteOn (endOf f s (beginOf table f s)) 1
     → IsEndedWithin (endOf f s (beginOf table f s)) 1
 unfolding endOf beginOf preparedOf
-within-y table f s off n = ended-within f 1 0 _ _ _ _ _ off (begun-unbanded table f s 1 _ _ _ off) (n .maximum) (n .offset)
+within-y table f s off n = ended-within f 1 0 _ _ _ _ _ off (begun-unbanded table f s 1 _ _ _ off) (n .offset)
 
 pub in-range : (table : Table) (S : State) (bytes : List ℕ) → isAccepted (stepAt table S bytes) ≡ true → wordNo bytes At.kineticRubberBand ≡ 0
     → IsInRange table S bytes (stepAt table S bytes .state) 0 × IsInRange table S bytes (stepAt table S bytes .state) 1

@@ -18,7 +18,7 @@ use Rattle.area.specs.SettlingRun.{framesFrom, framesOf, lastRefusal, se
 use Rattle.area.specs.declared.state.State.{State}
 use Rattle.area.specs.declared.outcome.Answer.{Answer}
 use Rattle.area.specs.declared.«settling_run».Settled.{Settled}
-use Rattle.area.proofs.TestLaws.{fails-right}
+use Rattle.numbers.proofs.TestLaws.{fails-right}
 use Rattle.area.proofs.CallLaws.{step-is-call, refusal-keeps, twelve, accepted}
 use Rattle.area.proofs.SettlingRunLaws.{passes-first}
 use Rattle.area.proofs.InsideLaws.{Inner, isLate, inner-next, inner-first, early-first, some-increment, next-in-time, frame-inside}

@@ -17,7 +17,7 @@ use Rattle.area.specs.SettlingRun.{runRefusal, settleRefusal, advanced, 
 use Rattle.area.specs.declared.state.State.{State}
 use Rattle.area.specs.declared.«settling_run».Settled.{Settled}
 use Rattle.area.specs.declared.outcome.Answer.{Answer}
-use Rattle.area.proofs.TestLaws.{both-zero}
+use Rattle.numbers.proofs.TestLaws.{both-zero}
 use Rattle.area.proofs.CallLaws.{whole-if-passed}
 
 -- ---- a run that is not turned back up front is on a frame and a state that pass 1 to 6, and passes 9

@@ -26,7 +26,7 @@ use Rattle.area.specs.declared.adjust.Adjusted.{Adjusted}
 use Rattle.area.specs.declared.adjust.AskedDelta.{AskedDelta}
 use Rattle.area.specs.declared.«wheel_turn».WheelHeard.{WheelHeard}
 use Rattle.area.specs.declared.«wheel_turn».Turned.{Turned}
-use Rattle.area.proofs.TestLaws.{either, chosen, left}
+use Rattle.numbers.proofs.TestLaws.{either, chosen, left}
 use Rattle.area.proofs.FollowLaws.{followed-keeps}
 
 -- ---- an axis that is not dragged stays stuck in `begin`

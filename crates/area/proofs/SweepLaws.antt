@@ -10,7 +10,7 @@ use Rattle.area.specs.Layout.{Row, flag, endOf, inside, optionAt, timeHi
 use Rattle.area.specs.Frame.{wordNo, flagNo, numberNo}
 use Rattle.area.specs.Checks.{isHeeded, shows2, shows3, shows4, shows5, isShown, lowestWhere}
 use Rattle.area.specs.Marks.{shownBy, shownOf, keptWith, sweepRows}
-use Rattle.area.proofs.TestLaws.{or-right, neither, and-left, and-right}
+use Rattle.numbers.proofs.TestLaws.{or-right, neither, and-left, and-right}
 
 -- ---- a word outside options, by its value
 

@@ -6,7 +6,7 @@ use Rattle.numbers.proofs.LerpLaws.{lerp-by-0-stays}
 use Rattle.area.specs.declared.prepared.AxisBegun.{AxisBegun}
 use Rattle.area.specs.Follow.{isNear, arrived, movedTowards, approachOf}
 use Rattle.area.specs.Corners.{ZeroLengthArrives, BeforeStartMovesBy0, MovedBy0Stays}
-use Rattle.area.proofs.TestLaws.{either}
+use Rattle.numbers.proofs.TestLaws.{either}
 
 pub zero-length-arrives : ZeroLengthArrives
 unfolding approachOf movedTowards lt ofBits

@@ -20,7 +20,7 @@ use Rattle.numbers.proofs.WithinLaws.{le-trans, not-below}
 use Rattle.area.specs.Layout as At
 use Rattle.area.specs.Frame.{wordNo, timeNo, timeWords}
 use Rattle.area.specs.SettlingRun.{isNoIncrement, advanced}
-use Rattle.area.proofs.TestLaws.{and-left}
+use Rattle.numbers.proofs.TestLaws.{and-left}
 
 -- ---- the two words of a time
 pub low-small : (b : ℕ) → b % 4294967296 < 4294967296

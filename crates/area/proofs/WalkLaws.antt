@@ -15,7 +15,7 @@ use Rattle.area.specs.Frame.{wordNo}
 use Rattle.area.specs.Checks.{showsNo, anyShows, lowestWhere, frameRefusal}
 use Rattle.area.specs.Sweep.{lowestOf, wordsUpTo, sweptOf}
 use Rattle.area.specs.Marks.{shownBy, shownOf, keptAt, keptWith, sweepFrom, countedOf, walkFrom, walkOf}
-use Rattle.area.proofs.TestLaws.{either}
+use Rattle.numbers.proofs.TestLaws.{either}
 use Rattle.area.proofs.SweepLaws.{Apart, shown-word}
 
 -- ---- the lowest number with one word more

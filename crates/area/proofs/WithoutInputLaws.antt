@@ -14,7 +14,7 @@ use Rattle.area.specs.Layout as At
 use Rattle.area.specs.Frame.{wordNo, numberNo, flagNo}
 use Rattle.area.specs.Moved.{isOtherThanZero, isMovedByWords}
 use Rattle.area.specs.WithoutInput.{isInput, clearedFrom, withoutInput, ShowsWithoutInput}
-use Rattle.area.proofs.TestLaws.{either}
+use Rattle.numbers.proofs.TestLaws.{either}
 use Rattle.area.proofs.EndLaws.{StaysOnEnd}
 use Rattle.area.proofs.MovedLaws.{stays-by-words-x, stays-by-words-y}
 

@@ -12,7 +12,7 @@ use lib.Ieee.Fits.{up-pos, down-pos}
 use lib.Ieee.Exact.{HasValue, round-exact}
 use Rattle.numbers.specs.F32 as F32
 use Rattle.numbers.specs.Scalar.{isFinite}
-use Rattle.area.proofs.TestLaws.{or-right, and-both, and-left, either}
+use Rattle.numbers.proofs.TestLaws.{or-right, and-both, and-left, either}
 
 abbrev pub IsZero : Float → Type 0
 IsZero nan = ⊥

@@ -1,13 +1,13 @@
 -- Prepared::end, "wheel": who hears it, and a turn of it on one axis.
 use Prim.Native.Nat.{ℕ}
-use mathlib.Core.Path.{_≡_, refl}
+use mathlib.Core.Path.{_≡_}
 use mathlib.Core.Bool.{Bool, true, false, cond, not, _&&_, _||_, Bool·beq}
-use lib.Ieee.{Float, binary32, ofBits, round, neg}
+use lib.Ieee.{Float, neg}
 use Rattle.numbers.specs.F32.{plus, times}
-use Rattle.numbers.specs.Scalar.{minOf}
 use Rattle.numbers.specs.declared.shape.Rect.{Rect}
 use Rattle.axis.specs.Physics.{isRubberBanding}
 use Rattle.axis.specs.Wheel.{wheelOf}
+use Rattle.axis.specs.WheelLaw.{WheelHolds}
 use Rattle.axis.specs.declared.physics.AxisPhysics.{AxisPhysics}
 use Rattle.axis.specs.declared.wheel.WheelScroll.{WheelScroll}
 use Rattle.axis.specs.declared.wheel.Wheeled.{Wheeled}
@@ -96,3 +96,21 @@ turnedOf f d before space extent wheel m rubberBanding =
     cond (wheel .heard && flag (f .settings .«direction_enabled») d)
     (turnedBy (wheelPhysicsOf f d before space extent) (wheelScrollOf f d (wheel .«always_scroll_enabled_direction»)) m rubberBanding (before .«bounced_this_momentum»))
     (unheard m rubberBanding (before .«bounced_this_momentum»))
+
+-- ---- what holds of it (proofs/WheelTurnLaws.antt)
+
+-- a turn, as the wheel left it
+abbrev pub leftOf : Turned → Wheeled
+leftOf t = record {
+  offset = t .motion .offset;
+  vel = t .motion .vel;
+  «bounced_this_momentum» = t .«bounced_this_momentum»;
+  consumed = t .consumed;
+}
+
+-- where the axis is turned, document 02's law of which turns are taken (K6; crates/axis/specs/WheelLaw.antt) holds of what it leaves
+abbrev pub TurnHolds : Frame → ℕ → AxisBefore → AxisSpace → AxisExtent → WheelHeard → AxisMotion → Turned → Type 0
+TurnHolds f d before space extent wheel m t =
+    (wheel .heard && flag (f .settings .«direction_enabled») d) ≡ true
+    → WheelHolds (wheelPhysicsOf f d before space extent) (m .offset) (m .vel) (wheelScrollOf f d (wheel .«always_scroll_enabled_direction»))
+    (before .«bounced_this_momentum») (leftOf t)

@@ -25,14 +25,14 @@ use Rattle.host.proofs.RecordLaws.{stateParts, state-right}
 use Rattle.host.proofs.ReadLaws.{start, partAt, Reads, reads}
 
 -- ---- a number, a flag
-number-small : (x : Float) → Is32 x → numberWord x < 4294967296
+pub number-small : (x : Float) → Is32 x → numberWord x < 4294967296
 number-small x held = toBits-lt binary32 x held
 
-number-back : (s : List ℕ) (n : ℕ) (x : Float) → Is32 x → wordNo s n ≡ numberWord x → numberNo s n ≡ x
+pub number-back : (s : List ℕ) (n : ℕ) (x : Float) → Is32 x → wordNo s n ≡ numberWord x → numberNo s n ≡ x
 unfolding numberNo
 number-back s n x held word = ap (ofBits binary32) word ∙ ofBits-toBits binary32 x held
 
-flag-small : (b : Bool) → flagWord b < 4294967296
+pub flag-small : (b : Bool) → flagWord b < 4294967296
 flag-small true = lit< tt
 flag-small false = lit< tt
 
@@ -40,7 +40,7 @@ is-flag : (b : Bool) → eqb (flagWord b) 1 ≡ b
 is-flag true = refl
 is-flag false = refl
 
-flag-back : (s : List ℕ) (n : ℕ) (b : Bool) → wordNo s n ≡ flagWord b → flagNo s n ≡ b
+pub flag-back : (s : List ℕ) (n : ℕ) (b : Bool) → wordNo s n ≡ flagWord b → flagNo s n ≡ b
 unfolding flagNo
 flag-back s n b word = ap (λ (w : ℕ). eqb w 1) word ∙ is-flag b
 

@@ -8,6 +8,7 @@ pub mod SettlingRunLaws
 pub mod HeldLaws
 pub mod ResetLaws
 pub mod TypedLaws
+pub mod WheelLaws
 pub mod CalledLaws
 pub mod RunHeldLaws
 pub mod ListLaws

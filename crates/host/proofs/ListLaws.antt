@@ -23,7 +23,7 @@ use Rattle.area.specs.Lists.{fedBy, feedFrom, toldFrom, AllLists}
 use Rattle.area.specs.declared.state.State.{State}
 use Rattle.area.specs.declared.outcome.Answer.{Answer}
 use Rattle.area.specs.declared.«settling_run».Settled.{Settled}
-use Rattle.area.proofs.TestLaws.{either}
+use Rattle.numbers.proofs.TestLaws.{either}
 use Rattle.area.proofs.CallLaws.{step-is-call, refusal-keeps, whole-if-passed, accepted}
 use Rattle.area.proofs.SettlingRunLaws.{whole-of-run}
 use Rattle.area.proofs.RunLaws.{goes, none-used, run-holds}

@@ -9,7 +9,7 @@ use lib.Dec.{eqb}
 use lib.ListN.{length}
 use Rattle.area.specs.Checks.{frameRefusal}
 use Rattle.area.specs.SettlingRun.{settleRefusal}
-use Rattle.area.proofs.TestLaws.{both-zero}
+use Rattle.numbers.proofs.TestLaws.{both-zero}
 use Rattle.area.proofs.SettlingRunLaws as area
 use Rattle.host.specs.Record.{stateOf, isDamaged}
 use Rattle.host.specs.Calls.{damagedRefusal}

@@ -21,14 +21,16 @@ use Rattle.area.specs.declared.state.OffsetTarget.{OffsetTarget}
 use Rattle.area.specs.declared.state.MaybePress.{MaybePress}
 use Rattle.area.specs.declared.state.StartOffset.{StartOffset}
 use Rattle.area.specs.declared.state.MaybeRect.{MaybeRect}
+use Rattle.axis.specs.declared.call.WheelAnswer.{WheelAnswer}
 use Rattle.numbers.proofs.shape.Pos2 as pos2
+use Rattle.axis.proofs.call.WheelAnswer as wheelAnswer
 use Rattle.area.proofs.state.State as state
 use Rattle.area.proofs.state.MaybeTarget as maybeTarget
 use Rattle.area.proofs.state.OffsetTarget as offsetTarget
 use Rattle.area.proofs.state.MaybePress as maybePress
 use Rattle.area.proofs.state.StartOffset as startOffset
 use Rattle.area.proofs.state.MaybeRect as maybeRect
-use Rattle.host.specs.Record.{ArePair, AreFlags, IsTarget, AreTargets, IsPress, ArePresses, IsRect, IsHeld}
+use Rattle.host.specs.Record.{Is32, ArePair, AreFlags, IsTarget, AreTargets, IsPress, ArePresses, IsRect, IsHeld}
 
 -- ---- an array of two, whose elements go into the type's own by `into`
 two : {X Y : Type 0} (into : X → Y) (own : Y → List Val → Fml) (C : List X → Type 0)
@@ -106,6 +108,12 @@ typed-is-held s vs p =
       «bounced_this_momentum» = flags (s .«bounced_this_momentum») _ (is .1 .1 .1 .1 .1 .1 .1 .1 .1 .1 .0);
       «remembered_time» = number binary64 (s .«remembered_time») _ (is .1 .1 .1 .1 .1 .1 .1 .1 .1 .1 .1 .0);
     }
+
+-- ---- the answer of a wheel call
+pub answer-is-held : (a : WheelAnswer) (vs : List Val) → Is wheelAnswer.the-row a vs → Is32 (a .wheeled .offset) × Is32 (a .wheeled .vel)
+answer-is-held a vs p =
+    let is = p .1 .1 .1 .0 .1 .1 in
+    (number binary32 (a .wheeled .offset) _ (is .0), number binary32 (a .wheeled .vel) _ (is .1 .0))
 
 -- ---- and back: a state that the code can hold has a machine value
 array-of : {X Y : Type 0} (into : X → Y) (own : Y → List Val → Fml) (x y : X) (u w : Val) → shadow (own (into x) (u ∷ [])) → shadow (own (into y) (w ∷ []))

@@ -1,13 +1,16 @@
 -- The calls of the library: what each answers, and what each leaves in the bytes that it is lent.
 use Prim.Native.Nat.{ℕ}
+use mathlib.Core.Path.{_≡_}
 use mathlib.Core.Bool.{Bool, cond, _||_}
 use mathlib.Core.List.{List, [], _∷_}
 use lib.Dec.{eqb, ltb}
 use Rattle.words.specs.Words.{bytesOf, putAt}
 use Rattle.numbers.specs.Table.{Table, tableAt}
 use Rattle.axis.specs.Call.{dragCallOf, stepCallUnder, wheelCallOf}
+use Rattle.axis.specs.WheelLaw.{OverscrollIsOutside, WheelHolds}
 use Rattle.axis.specs.declared.physics.AxisPhysics.{AxisPhysics}
 use Rattle.axis.specs.declared.wheel.WheelScroll.{WheelScroll}
+use Rattle.axis.specs.declared.wheel.Wheeled.{Wheeled}
 use Rattle.axis.specs.declared.call.DragAnswer.{DragAnswer}
 use Rattle.axis.specs.declared.call.StepAnswer.{StepAnswer}
 use Rattle.axis.specs.declared.call.WheelAnswer.{WheelAnswer}
@@ -138,3 +141,15 @@ wheelOn call =
     cond (isWheelOutside call)
     (wheelGiven call 2)
     (wheelLeft (wheelCallOf (axisOf call) (numberNo call 7) (numberNo call 8) (scrollOf call) (flagNo call 13)) call)
+
+-- what an accepted call leaves in out, as the wheel's answer
+abbrev pub wheeledOf : List ℕ → Wheeled
+wheeledOf out = record { offset = numberNo out 1; vel = numberNo out 2; «bounced_this_momentum» = flagNo out 3; consumed = flagNo out 4 }
+
+-- document 02's law of which turns are taken (K6; crates/axis/specs/WheelLaw.antt) holds of it; an overscroll other than 0 is an offset outside
+-- the bounds; and what is "as given" is so word for word
+pub record WheelOnHolds (call out : List ℕ) : Type 0 where
+  pub law : WheelHolds (axisOf call) (numberNo call 7) (numberNo call 8) (scrollOf call) (flagNo call 13) (wheeledOf out)
+  pub outside : OverscrollIsOutside (axisOf call) (numberNo call 7)
+  pub offset-word : numberNo out 1 ≡ numberNo call 7 → wordNo out 1 ≡ wordNo call 7
+  pub velocity-word : numberNo out 2 ≡ numberNo call 8 → wordNo out 2 ≡ wordNo call 8

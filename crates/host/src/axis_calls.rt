@@ -133,7 +133,8 @@ fn step_of(call: &[u8], table: &[u8]) -> StepAnswer
 
 #[no_mangle]
 pub extern "C" fn strakobud_wheel(call: &[u8; 52], out: &mut [u8; 16]) -> u32
-    ensures { λ r. ⌜ record { refusal = r; out = now (out .exit) } ≡ Spec.wheelOn (now (call .entry)) ⌝ }
+    ensures answers { λ r. ⌜ record { refusal = r; out = now (out .exit) } ≡ Spec.wheelOn (now (call .entry)) ⌝ }
+    ensures holds { λ r. ⌜ (r ≡ 0 → Spec.WheelOnHolds (now (call .entry)) (now (out .exit))) ⌝ }
 {
     let c: &[u8] = call;
     words::put(out, 0, &[word_at(c, 7), word_at(c, 8), word_at(c, 13), 0]);

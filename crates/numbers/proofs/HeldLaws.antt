@@ -32,17 +32,17 @@ unfolding round
 round-0 binary32 s a c e h = round-same binary32 s a c 0 1 h (omega arith) (omega arith)
 round-0 binary64 s a c e h = round-same binary64 s a c 0 1 h (omega arith) (omega arith)
 
-pow-le-back : (a l : ℕ) → 2 ^ a ≤ 2 ^ l → a ≤ l
+pub pow-le-back : (a l : ℕ) → 2 ^ a ≤ 2 ^ l → a ≤ l
 pow-le-back a l h = le-of-suc-le-suc (lt-of-not-le (λ (g : suc l ≤ a). lt-irrefl (2 ^ l) (lt-of-lt-of-le (pow-lt g) h)))
 
-whole-exact : (f : Format) (s : Bool) (m a : ℕ) → m < 2 ^ prec f → m * 2 ^ a < 2 ^ suc (emax f) → HasValue (round f s (m * 2 ^ a) 1) s (m * 2 ^ a) 1
+pub whole-exact : (f : Format) (s : Bool) (m a : ℕ) → m < 2 ^ prec f → m * 2 ^ a < 2 ^ suc (emax f) → HasValue (round f s (m * 2 ^ a) 1) s (m * 2 ^ a) 1
 whole-exact f s m a h k =
     let l = low f in
     let j : m * 2 ^ a * 2 ^ l ≡ m * 2 ^ (a + l) = mul-assoc m (2 ^ a) (2 ^ l) ∙ ap (λ (z : ℕ). m * z) (sym (pow-add 2 a l)) in
     let b : m * 2 ^ (a + l) < 2 ^ (l + suc (emax f)) = subst (λ (z : ℕ). m * 2 ^ (a + l) < 2 ^ z) (add-comm (suc (emax f)) l) (subst (λ (z : ℕ). z < 2 ^ (suc (emax f) + l)) j (shl-lt (suc (emax f)) l k)) in
     round-exact f s (m * 2 ^ a) 1 m (a + l) (zero-lt-suc 0) h b (j ∙ sym (mul-one (m * 2 ^ (a + l))))
 
-part-exact : (f : Format) (s : Bool) (m a : ℕ) → m < 2 ^ prec f → a ≤ low f → HasValue (round f s (m * 1) (2 ^ a)) s (m * 1) (2 ^ a)
+pub part-exact : (f : Format) (s : Bool) (m a : ℕ) → m < 2 ^ prec f → a ≤ low f → HasValue (round f s (m * 1) (2 ^ a)) s (m * 1) (2 ^ a)
 part-exact f s m a h k =
     let j = low f - a in
     let e : m * 1 * 2 ^ low f ≡ m * 2 ^ j * 2 ^ a =

@@ -107,6 +107,20 @@ fn set_back(state: &mut strakobud::StateBytes, frame: &Frame) {
     show("after a reset", refusal, state);
 }
 
+/// A turn of the wheel at the end of a list that scrolls over 300 points: does the list take it, or what encloses the list?
+fn turn(what: &str, delta: f32) {
+    let numbers = [(2, 300.0), (3, 100.0), (4, 1.0), (5, 1.0), (7, 300.0), (9, delta)];
+    let flags = [(10, 2), (11, 1)]; // of a wheel; something encloses the list
+    let words = numbers.map(|(word, number)| (word, number.to_bits()));
+    let (mut call, mut out) = ([0; 52], [0; 16]);
+    for (word, bits) in words.into_iter().chain(flags) {
+        call[4 * word - 4..4 * word].copy_from_slice(&u32::to_le_bytes(bits));
+    }
+    let refusal = strakobud::wheel(&call, &mut out);
+    let answer = if out[12] == 1 { "taken" } else { "left to the parent" };
+    println!("a turn {what}: refusal {refusal}, {answer}");
+}
+
 fn main() {
     let (mut state, mut out) = ([0; 156], [0; 100]);
     strakobud::fresh(&mut state);
@@ -138,4 +152,6 @@ fn main() {
     flick(&mut state, &mut frame);
     settle(&mut state, &frame);
     set_back(&mut state, &frame);
+    turn("past the end", 8.0);
+    turn("back", -8.0);
 }

@@ -17,7 +17,7 @@ finish-axis-requires c κs = search needs
 
 returns : tie.Need-returns
 unfolding axisEndedOf
-returns c = rw (← c .before .before .before .copy-of-motion .ensures, ← c .before .before .adjust-axis .ensures, ← c .before .turn-axis .ensures, ← c .finish-axis .ensures)
+returns c = rw (← c .before .before .before .copy-of-motion .ensures, ← c .before .before .adjust-axis .ensures, ← c .before .turn-axis .ensures .0, ← c .finish-axis .ensures)
 
 pub end-axis-spec : {M : Type 1} → statement M
 end-axis-spec =

@@ -4,7 +4,7 @@ use borrow.Author.Tests.{eqb-true}
 use borrow.Author.Needs.{needs}
 use Rattle.area.specs.Checks.{shows2, shows3, shows4, shows5}
 use Rattle.area.specs.Marks.{keptWith, shownOf}
-use Rattle.area.proofs.TestLaws.{or-false, and-true}
+use Rattle.numbers.proofs.TestLaws.{or-false, and-true}
 use Rattle.area.proofs.MarkLaws.{finite, infinite-speed}
 use Rattle.area.proofs.marks.points_per_second.Statement.{statement}
 use Rattle.area.proofs.marks.points_per_second.Tie as tie

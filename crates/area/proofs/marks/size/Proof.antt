@@ -1,7 +1,7 @@
 use borrow.Author.Needs.{needs}
 use Rattle.area.specs.Checks.{shows2, shows3, shows4, shows5}
 use Rattle.area.specs.Marks.{shownOf}
-use Rattle.area.proofs.TestLaws.{or-false}
+use Rattle.numbers.proofs.TestLaws.{or-false}
 use Rattle.area.proofs.marks.size.Statement.{statement}
 use Rattle.area.proofs.marks.size.Tie as tie
 

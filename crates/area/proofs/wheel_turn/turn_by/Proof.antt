@@ -11,11 +11,11 @@ is-rubber-banding-requires c κs = search needs
 
 returns : tie.Need-returns
 unfolding turnedBy
-returns c = rw (← c .before .before .wheel .ensures, c .before .if1 .taken, ← c .is-rubber-banding .ensures)
+returns c = rw (← c .before .before .wheel .ensures .0, c .before .if1 .taken, ← c .is-rubber-banding .ensures)
 
 returns-2 : tie.Need-returns-2
 unfolding turnedBy
-returns-2 c = rw (← c .before .wheel .ensures, c .if1 .left)
+returns-2 c = rw (← c .before .wheel .ensures .0, c .if1 .left)
 
 pub turn-by-spec : {M : Type 1} → statement M
 turn-by-spec = tie.close (tie.spec wheel-requires is-rubber-banding-requires returns returns-2)

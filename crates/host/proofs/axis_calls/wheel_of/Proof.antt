@@ -28,7 +28,7 @@ returns c =
       ← c .before .before .before .number-at2 .ensures,
       ← c .before .before .scroll-of .ensures,
       ← c .before .flag-at .ensures,
-      ← c .wheel .ensures,
+      ← c .wheel .ensures .0,
     )
 
 pub wheel-of-spec : {M : Type 1} → statement M
