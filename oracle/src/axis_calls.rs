@@ -1,6 +1,8 @@
 //! The axis calls of a host: document 01's refusals around the steps of egui.
 
+use crate::branches::{met_by, OF_WHEEL_CALLS};
 use crate::scroll_physics::{AxisPhysics, WheelScroll};
+use crate::wheel_law::Turn;
 
 /// Document 01: "exceeds 1,048,576 in magnitude".
 pub const LIMIT: f32 = 1_048_576.0;
@@ -110,27 +112,37 @@ pub fn wheel(
     scroll: WheelScroll,
     bounced: bool,
 ) -> Wheeled {
-    let refused = |refusal| Wheeled {
-        refusal,
+    turned(&Turn {
+        axis: *axis,
         offset,
         velocity,
+        scroll,
         bounced,
+    })
+}
+
+/// The same, of a turn as it is given.
+pub fn turned(turn: &Turn) -> Wheeled {
+    let refused = |refusal| Wheeled {
+        refusal,
+        offset: turn.offset,
+        velocity: turn.velocity,
+        bounced: turn.bounced,
         answer: false,
     };
-    let early = refusal(
-        axis,
-        Some(scroll.delta),
-        Some(scroll.dt),
-        &[offset, velocity],
-    );
+    let (delta, dt) = (Some(turn.scroll.delta), Some(turn.scroll.dt));
+    let early = refusal(&turn.axis, delta, dt, &[turn.offset, turn.velocity]);
     if early != 0 {
         return refused(early);
     }
-    let (mut moved, mut speed, mut flag) = (offset, velocity, bounced);
-    let answer = axis.wheel(&mut moved, &mut speed, scroll, &mut flag);
+    let (mut moved, mut speed, mut flag) = (turn.offset, turn.velocity, turn.bounced);
+    let answer = turn
+        .axis
+        .wheel(&mut moved, &mut speed, turn.scroll, &mut flag);
     if !(moved.is_finite() && speed.is_finite()) {
         return refused(8);
     }
+    met_by(|| turn.ground().among(OF_WHEEL_CALLS));
     Wheeled {
         refusal: 0,
         offset: moved,

@@ -1,5 +1,5 @@
-//! How often each branch of `begin`, `end`, exp, a table's load, a run, the clock and a bad word is met; without the feature `branches`
-//! nothing is counted.
+//! How often each branch of `begin`, `end`, exp, a table's load, a run, the clock, a turn of the wheel and a bad word is met; without the
+//! feature `branches` nothing is counted.
 
 macro_rules! branches {
     ($($branch:ident $words:literal)*) => {
@@ -119,6 +119,18 @@ branches! {
     Before12By6 "6 ahead of 12"
     RememberedNotFinite "remembered time that is not finite, nothing else: 6"
     ResetAboveZero "reset of a remembered time above 0"
+    CallZero "wheel call: no delta"
+    CallCan "wheel call: the offset can move that way"
+    CallOverscroll "wheel call: band by an overscroll"
+    CallNoParent "wheel call: band by no parent"
+    CallCorner "wheel call: Momentum after a bounce takes it"
+    CallNobody "wheel call: nobody takes it"
+    TurnZero "turn in a frame: no delta"
+    TurnCan "turn in a frame: the offset can move that way"
+    TurnOverscroll "turn in a frame: band by an overscroll"
+    TurnNoParent "turn in a frame: band by no parent"
+    TurnCorner "turn in a frame: Momentum after a bounce takes it"
+    TurnNobody "turn in a frame: nobody takes it"
     Kept2 "bad word: 2 is kept first, and to the end"
     Kept3 "bad word: 3 is kept first, and to the end"
     Kept4 "bad word: 4 is kept first, and to the end"
@@ -159,6 +171,21 @@ pub const OF_RESETS: &[(Branch, &str)] = {
     let before = Branch::MinusZeroRemembered as usize - Branch::ClockBack as usize;
     OF_CLOCK.split_at(before).1
 };
+
+/// Those of who takes a turn of the wheel, from the first to the last of them.
+pub const OF_WHEEL: &[(Branch, &str)] = {
+    let (up_to_last, _) = BRANCHES.split_at(Branch::TurnNobody as usize + 1);
+    up_to_last.split_at(Branch::CallZero as usize).1
+};
+
+/// Those of them that wheel calls meet, in the order of the grounds.
+pub const OF_WHEEL_CALLS: &[(Branch, &str)] = {
+    let calls = Branch::TurnZero as usize - Branch::CallZero as usize;
+    OF_WHEEL.split_at(calls).0
+};
+
+/// Those of them that frames meet, in the order of the grounds.
+pub const OF_TURNS: &[(Branch, &str)] = OF_WHEEL.split_at(OF_WHEEL_CALLS.len()).1;
 
 /// Those that a bad word alone can meet, to the end of the list.
 pub const OF_BAD_WORDS: &[(Branch, &str)] = BRANCHES.split_at(Branch::Kept2 as usize).1;

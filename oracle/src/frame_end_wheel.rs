@@ -1,10 +1,12 @@
 //! The part of egui's `Prepared::end` that applies the wheel.
 
-use crate::branches::{met_either, met_if, Branch};
+use crate::branches::{met_by, met_either, met_if, Branch, OF_TURNS};
 use crate::frame::Fields;
 use crate::frame_begin::{dt, Prepared};
 use crate::frame_end::Measures;
+use crate::frame_state::State;
 use crate::scroll_physics::{scroll_bounds, AxisPhysics, WheelScroll};
+use crate::wheel_law::{Ground, Turn};
 
 /// Answers the wheel delta that is left for a parent.
 pub fn wheel(prepared: &mut Prepared, frame: &Fields, measures: &Measures) -> [f32; 2] {
@@ -60,15 +62,18 @@ fn wheel_axis(
         ..prepared.axis_physics[d]
     };
 
+    let scroll = WheelScroll {
+        delta: -scroll_delta,
+        source: frame.host.scroll_source,
+        can_chain_to_parent: frame.host.has_scrolling_ancestor,
+        dt: dt(frame),
+    };
+    met_by(|| ground(physics, state, scroll, d).among(OF_TURNS));
+
     let consumed = physics.wheel(
         &mut state.offset[d],
         &mut state.vel[d],
-        WheelScroll {
-            delta: -scroll_delta,
-            source: frame.host.scroll_source,
-            can_chain_to_parent: frame.host.has_scrolling_ancestor,
-            dt: dt(frame),
-        },
+        scroll,
         &mut state.bounced_this_momentum[d],
     );
 
@@ -79,4 +84,16 @@ fn wheel_axis(
         state.offset_target[d] = None;
     }
     consumed
+}
+
+/// Who takes the delta.
+fn ground(physics: AxisPhysics, state: &State, scroll: WheelScroll, d: usize) -> Ground {
+    let turn = Turn {
+        axis: physics,
+        offset: state.offset[d],
+        velocity: state.vel[d],
+        scroll,
+        bounced: state.bounced_this_momentum[d],
+    };
+    turn.ground()
 }

@@ -6,9 +6,10 @@ use crate::axis_calls;
 use crate::clock::{reset_record, Remembering, StateBytes};
 use crate::frame_checks::{self, frame_refusal};
 use crate::records::{write_output, OutBytes, Reader, Writer};
-use crate::scroll_physics::{scroll_bounds, WheelScroll};
+use crate::scroll_physics::scroll_bounds;
 use crate::settling_run::{frames_until_rest, refusal_up_front};
 use crate::tables::{self, Table, TableBytes};
+use crate::wheel_law::Turn;
 
 pub fn fresh(state: &mut StateBytes) {
     Remembering::default().write(state);
@@ -152,27 +153,26 @@ pub fn step_by(call: &[u8; 40], table: &'static Table, out: &mut [u8; 12]) -> u3
     tables::under(table, || step(call, out))
 }
 
+/// What a wheel call gives; nothing where a flag or a kind is outside its values.
+pub fn turn_of(call: &[u8; 52]) -> Option<Turn> {
+    let mut reader = Reader::of(call);
+    Some(Turn {
+        axis: reader.axis()?,
+        offset: reader.number(),
+        velocity: reader.number(),
+        scroll: reader.scroll()?,
+        bounced: reader.flag()?,
+    })
+}
+
 pub fn wheel(call: &[u8; 52], out: &mut [u8; 16]) -> u32 {
     out[..8].copy_from_slice(&call[24..32]);
     out[8..12].copy_from_slice(&call[48..]);
     out[12..].fill(0);
-    let mut reader = Reader::of(call);
-    let axis = reader.axis();
-    let (offset, velocity, delta) = (reader.number(), reader.number(), reader.number());
-    let (source, can_chain_to_parent) = (reader.source(), reader.flag());
-    let dt = reader.number();
-    let (Some(axis), Some(source), Some(can_chain_to_parent), Some(bounced)) =
-        (axis, source, can_chain_to_parent, reader.flag())
-    else {
+    let Some(turn) = turn_of(call) else {
         return 2;
     };
-    let scroll = WheelScroll {
-        delta,
-        source,
-        can_chain_to_parent,
-        dt,
-    };
-    let answer = axis_calls::wheel(&axis, offset, velocity, scroll, bounced);
+    let answer = axis_calls::turned(&turn);
     if answer.refusal == 0 {
         let mut writer = Writer::on(out);
         writer.number(answer.offset);

@@ -30,4 +30,5 @@ pub mod streams;
 pub mod sweep_vectors;
 pub mod table_vectors;
 pub mod tables;
+pub mod wheel_law;
 pub mod words;

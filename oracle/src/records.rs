@@ -4,7 +4,7 @@ use crate::frame_call::Output;
 use crate::frame_state::{ScrollingToTarget, State};
 use crate::numbers::Rangef;
 use crate::rectangles::{Pos2, Rect};
-use crate::scroll_physics::{AxisPhysics, KineticScrollStyle, MouseWheelSource};
+use crate::scroll_physics::{AxisPhysics, KineticScrollStyle, MouseWheelSource, WheelScroll};
 
 /// How many bytes of a state's record egui's state takes: its first 37 words.
 pub const RUST_BYTES: usize = 148;
@@ -156,8 +156,18 @@ impl Reader<'_> {
         })
     }
 
+    /// Nothing where a flag or the kind is outside its values.
+    pub fn scroll(&mut self) -> Option<WheelScroll> {
+        Some(WheelScroll {
+            delta: self.number(),
+            source: self.source()?,
+            can_chain_to_parent: self.flag()?,
+            dt: self.number(),
+        })
+    }
+
     /// Nothing where the kind is outside its values.
-    pub fn source(&mut self) -> Option<Option<MouseWheelSource>> {
+    fn source(&mut self) -> Option<Option<MouseWheelSource>> {
         Some(match self.word() {
             0 => None,
             1 => Some(MouseWheelSource::Unknown),
