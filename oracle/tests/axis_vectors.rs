@@ -48,7 +48,10 @@ fn every_line_shows_the_operands_and_the_whole_answer() {
 #[test]
 fn the_fixed_list_has_its_size_and_repeats_no_record() {
     let list = fixed_list();
-    assert_eq!(list.len(), 851);
+    // Turns at nine offsets by six deltas, of five sources, before and after a bounce: with rubber band off, on, and with four deltas with
+    // both parents; at five other offsets by two deltas, of three sources, likewise. Three of the named ones are not among these.
+    let turns = 9 * 5 * 2 * (6 + 6 + 4) + 5 * 3 * 2 * (2 + 2 + 2) + 3;
+    assert_eq!(list.len(), 851 + turns);
     assert_no_record_repeats(list.iter().map(Call::input_record).collect());
 }
 

@@ -9,7 +9,7 @@ use oracle::clock::run;
 use oracle::frame_checks::sweep_line;
 use oracle::frame_vectors::{self, Call};
 use oracle::scenes::scene_list;
-use oracle::{run_vectors, sweep_vectors, table_vectors};
+use oracle::{axis_vectors, run_vectors, sweep_vectors, table_vectors};
 
 /// That the files of a crate are these records and lines.
 fn assert_stored(name: &str, records: Vec<Vec<u8>>, lines: Vec<String>) {
@@ -34,6 +34,14 @@ fn the_frames_of_the_sweep_are_stored() {
     let list = sweep_vectors::fixed_list();
     let lines = list.iter().map(|part| sweep_line(part)).collect();
     assert_stored("sweep", list, lines);
+}
+
+#[test]
+fn the_axis_calls_are_stored() {
+    let list = axis_vectors::fixed_list();
+    let records = list.iter().map(axis_vectors::Call::input_record).collect();
+    let lines = list.iter().map(axis_vectors::Call::output_line).collect();
+    assert_stored("replay_axis", records, lines);
 }
 
 #[test]

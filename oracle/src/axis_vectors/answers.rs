@@ -1,9 +1,10 @@
 //! The answer of an axis call, from its words.
 
 use super::{place, Call, Kind};
-use crate::axis_calls::{drag, step, wheel};
+use crate::axis_calls::{drag, step, turned};
 use crate::numbers::Rangef;
 use crate::scroll_physics::{AxisPhysics, KineticScrollStyle, MouseWheelSource, WheelScroll};
+use crate::wheel_law::Turn;
 use crate::words::{in_hex, shown};
 
 /// The axis of the first six operands.
@@ -66,16 +67,24 @@ fn step_answer(call: &Call) -> (u32, String) {
     (found.refusal, in_text(&numbers, &[found.answer]))
 }
 
+/// What a wheel call gives.
+pub(super) fn turn(call: &Call) -> Turn {
+    Turn {
+        axis: axis(call),
+        offset: call.float(place::OFFSET),
+        velocity: call.float(place::VELOCITY),
+        scroll: WheelScroll {
+            delta: call.float(place::WHEEL_DELTA),
+            source: source(call.words[place::SOURCE]),
+            can_chain_to_parent: flag(call.words[place::CAN_CHAIN]),
+            dt: call.float(place::WHEEL_DT),
+        },
+        bounced: flag(call.words[place::BOUNCED]),
+    }
+}
+
 fn wheel_answer(call: &Call) -> (u32, String) {
-    let scroll = WheelScroll {
-        delta: call.float(place::WHEEL_DELTA),
-        source: source(call.words[place::SOURCE]),
-        can_chain_to_parent: flag(call.words[place::CAN_CHAIN]),
-        dt: call.float(place::WHEEL_DT),
-    };
-    let (offset, velocity) = (call.float(place::OFFSET), call.float(place::VELOCITY));
-    let bounced = flag(call.words[place::BOUNCED]);
-    let found = wheel(&axis(call), offset, velocity, scroll, bounced);
+    let found = turned(&turn(call));
     let numbers = [found.offset, found.velocity];
     let flags = [found.bounced, found.answer];
     (found.refusal, in_text(&numbers, &flags))

@@ -1,6 +1,7 @@
 //! The fixed list: every group of it, in order.
 
-use super::{fixed_drag, fixed_refusals, fixed_step, fixed_wheel, fixed_wheel_edges, Call, List};
+use super::{fixed_drag, fixed_refusals, fixed_step, fixed_wheel, fixed_wheel_edges};
+use super::{fixed_wheel_turns, Call, List};
 
 /// Adds calls on one subject.
 type Group = fn(&mut List);
@@ -59,10 +60,17 @@ const WHEELS: [Group; 11] = [
     fixed_wheel_edges::zeros,
 ];
 
+const TURNS: [Group; 4] = [
+    fixed_wheel_turns::named,
+    fixed_wheel_turns::every_turn,
+    fixed_wheel_turns::one_number,
+    fixed_wheel_turns::far_out,
+];
+
 /// The fixed calls.
 pub fn fixed_list() -> Vec<Call> {
     let mut list = List(Vec::new());
-    let subjects: [&[Group]; 5] = [&READINGS, &REFUSALS, &DRAGS, &STEPS, &WHEELS];
+    let subjects: [&[Group]; 6] = [&READINGS, &REFUSALS, &DRAGS, &STEPS, &WHEELS, &TURNS];
     for group in subjects.concat() {
         group(&mut list);
     }

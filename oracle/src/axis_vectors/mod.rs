@@ -7,11 +7,13 @@ mod fixed_refusals;
 mod fixed_step;
 mod fixed_wheel;
 mod fixed_wheel_edges;
+pub mod fixed_wheel_turns;
 mod place;
 mod random;
 pub(crate) mod random_numbers;
 pub(crate) mod scene;
 
+use crate::wheel_law::Turn;
 use crate::words::{in_bytes, in_hex};
 
 pub use fixed::fixed_list;
@@ -87,6 +89,11 @@ impl Call {
     /// The refusal of this call, 0 where it is accepted.
     pub fn refusal(&self) -> u32 {
         answers::answer(self).0
+    }
+
+    /// What a wheel call gives; nothing of another kind.
+    pub fn turn(&self) -> Option<Turn> {
+        (self.kind == Kind::Wheel).then(|| answers::turn(self))
     }
 
     /// The operands that the kind takes.
