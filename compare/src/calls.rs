@@ -1,11 +1,12 @@
 //! The axis calls.
 
-use oracle::axis_vectors::{random_list, Call, Kind};
+use oracle::axis_vectors::{fixed_list, random_list, Call, Kind};
 use oracle::host_calls;
 use oracle::random::Random;
 
 use crate::tables::{name_of, Lent, Pool, Serving};
 use crate::tally::{Part, Tally};
+use crate::wheel;
 
 /// Calls in one list.
 const LIST: u64 = 30_000;
@@ -19,10 +20,14 @@ fn flags(kind: Kind) -> &'static [usize] {
     }
 }
 
-/// The words of a call, at times with a flag or a kind outside its values.
-fn words(random: &mut Random, call: &Call) -> Vec<u8> {
-    // The record begins with the kind.
-    let mut bytes = call.input_record()[4..].to_vec();
+/// The words of a call: its record begins with the kind.
+fn words(call: &Call) -> Vec<u8> {
+    call.input_record()[4..].to_vec()
+}
+
+/// The same, at times with a flag or a kind outside its values.
+fn hostile_words(random: &mut Random, call: &Call) -> Vec<u8> {
+    let mut bytes = words(call);
     let places = flags(call.kind());
     if random.below(32) == 0 {
         let flag = places[random.below(places.len())];
@@ -31,14 +36,19 @@ fn words(random: &mut Random, call: &Call) -> Vec<u8> {
     bytes
 }
 
-/// Calls that may occur and hostile ones.
+/// The calls that are stored for the gate, then that many that may occur or are hostile; none where none is wanted.
 pub fn axis_calls(tally: &mut Tally, seed: u64, count: u64) {
+    if count > 0 {
+        for call in fixed_list() {
+            compare(tally, call.kind(), &words(&call));
+        }
+    }
     let mut random = Random::new(seed ^ 0x5555);
     let mut done = 0;
     while done < count {
         let list = random_list(random.long(), LIST.min(count - done) as usize);
         for call in &list {
-            compare(tally, call.kind(), &words(&mut random, call));
+            compare(tally, call.kind(), &hostile_words(&mut random, call));
         }
         done += list.len() as u64;
         tally.progress(Part::Axis.name(), done, count);
@@ -55,7 +65,7 @@ pub fn step_lists(seed: u64, count: u64) -> impl Iterator<Item = Vec<[u8; 40]>> 
         // Every third call is a step.
         let calls = random_list(random.long(), 3 * wanted as usize);
         let steps = calls.iter().filter(|call| call.kind() == Kind::Step);
-        let list = steps.map(|call| *first(&words(&mut random, call)));
+        let list = steps.map(|call| *first(&hostile_words(&mut random, call)));
         (wanted > 0).then(|| list.collect())
     })
 }
@@ -113,6 +123,9 @@ fn compare(tally: &mut Tally, kind: Kind, bytes: &[u8]) {
         let name = kind.name();
         format!("{name} {bytes:02x?}: library {refusal} {out:02x?}, oracle {rust_refusal} {rust_out:02x?}")
     });
+    if kind == Kind::Wheel {
+        wheel::judge(tally, first(bytes), refusal, &out);
+    }
 }
 
 fn first<const N: usize>(bytes: &[u8]) -> &[u8; N] {

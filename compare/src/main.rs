@@ -2,9 +2,10 @@
 //!
 //! `compare SEED FRAMES STATES CALLS UNDER RUNS`: frames and resets of scenes from fresh states, frames on arbitrary states, axis calls and,
 //! that often too, bad words and resets of arbitrary records; then, each that often, frames of both kinds and steps under tables and with T
-//! lent, and a tenth as many loads; then settling runs, each by T, with T lent and under tables. It fails where the two sides differ, where
-//! the frames on states leave out a branch of the clock, where the runs leave out an end or a ground that a run can have, and where the bad
-//! words leave out a number that is kept first or one that lowers it.
+//! lent, and a tenth as many loads; then settling runs, each by T, with T lent and under tables. It fails where the two sides differ, where an
+//! answer of the library's wheel breaks the law of which turns are taken, where the frames on states leave out a branch of the clock, where
+//! the wheel calls or the turns in frames leave out a ground on which a turn is taken or left, where the runs leave out an end or a ground
+//! that a run can have, and where the bad words leave out a number that is kept first or one that lowers it.
 //!
 //! The remembered time and the frames refused with 12 are left out of what the Rust is compared on, as `frames` says: they are compared with
 //! the oracle's model of the clock.
@@ -17,11 +18,13 @@ mod runs;
 mod t_lent;
 mod tables;
 mod tally;
+mod wheel;
 
 use std::{env, process};
 
 use tables::Pool;
 use tally::{has_every_branch_of_bad_words, has_every_branch_of_clock, Tally};
+use tally::{has_every_branch_of_turns, has_every_branch_of_wheel_calls};
 
 fn main() {
     let arguments: Vec<String> = env::args().skip(1).collect();
@@ -44,7 +47,10 @@ fn main() {
     let are_runs_whole = *runs == 0 || tally.has_every_end_of_runs();
     let are_bad_words_whole = *calls == 0 || has_every_branch_of_bad_words();
     let is_clock_whole = *states == 0 || has_every_branch_of_clock();
-    let are_whole = are_runs_whole && are_bad_words_whole && is_clock_whole;
+    let are_wheel_calls_whole = *calls == 0 || has_every_branch_of_wheel_calls();
+    let are_turns_whole = *states == 0 || has_every_branch_of_turns();
+    let is_wheel_whole = are_wheel_calls_whole && are_turns_whole;
+    let are_whole = are_runs_whole && are_bad_words_whole && is_clock_whole && is_wheel_whole;
     let is_good = tally.different == 0 && are_whole;
     process::exit(i32::from(!is_good));
 }

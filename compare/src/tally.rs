@@ -91,6 +91,7 @@ pub enum Part {
     Fresh,
     Arbitrary,
     Axis,
+    WheelLaw,
     BadWords,
     Resets,
     Loads,
@@ -104,10 +105,11 @@ pub enum Part {
 }
 
 impl Part {
-    const ALL: [Part; 13] = [
+    const ALL: [Part; 14] = [
         Part::Fresh,
         Part::Arbitrary,
         Part::Axis,
+        Part::WheelLaw,
         Part::BadWords,
         Part::Resets,
         Part::Loads,
@@ -125,6 +127,9 @@ impl Part {
             Part::Fresh => "frames from fresh states",
             Part::Arbitrary => "frames on arbitrary states",
             Part::Axis => "axis calls",
+            Part::WheelLaw => {
+                "wheel answers of the library, judged by the law of which turns are taken"
+            }
             Part::BadWords => "bad words of frames by themselves, and of runs",
             Part::Resets => "resets, among frames and of arbitrary records",
             Part::Loads => "loads of tables",
@@ -207,6 +212,16 @@ pub fn has_every_branch_of_bad_words() -> bool {
 /// Whether 12 was met in each order with the other numbers, and every kind of remembered time; says which is missing.
 pub fn has_every_branch_of_clock() -> bool {
     are_none(&unmet_of(branches::OF_CLOCK))
+}
+
+/// Whether wheel calls were taken and left on every ground there is; says which is missing.
+pub fn has_every_branch_of_wheel_calls() -> bool {
+    are_none(&unmet_of(branches::OF_WHEEL_CALLS))
+}
+
+/// Whether turns in frames were taken and left on every ground there is; says which is missing.
+pub fn has_every_branch_of_turns() -> bool {
+    are_none(&unmet_of(branches::OF_TURNS))
 }
 
 /// Those of the branches that were not met, in words.
