@@ -7,6 +7,7 @@ use super::fixed_records::*;
 use super::fixed_refusals::*;
 use super::fixed_resets::*;
 use super::fixed_rests::*;
+use super::fixed_turns::turns;
 use super::hung_target::hung_target;
 use super::lists::{list, moving, paced, with_band};
 use super::{Call, Record, Run};
@@ -74,6 +75,7 @@ pub fn fixed_list() -> Vec<Record> {
     }
     list.extend(that_show_the_table().iter().map(Run::of).map(Record::Run));
     list.extend([resets(), steps_of_time(), refusals(), hung_target()].concat());
+    list.extend(turns());
     list.extend(on_given_records());
     list
 }
