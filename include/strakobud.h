@@ -163,18 +163,20 @@ uint32_t strakobud_step(const uint8_t call[40], uint8_t out[12]);
 uint32_t strakobud_step_by(const uint8_t call[40], const uint8_t table[STRAKOBUD_TABLE_BYTES], uint8_t out[12]);
 
 /* then offset, velocity, delta, source, can_chain_to_parent, dt, bounced; out: offset, velocity, bounced, answer (1 if
- * the delta is taken, 0 if whatever encloses the list may have it)
+ * the list takes the delta; 0 of an accepted call: whatever encloses the list may have it)
  *
  * Which turns are taken, of every accepted call, wherever the offset lies, zeros of either sign and subnormal numbers
- * included (docs/WHEEL.md has it row by row):
+ * included; an outcome that is not finite is refused with 8 (docs/WHEEL.md has it row by row):
  * - 0 leaves offset and velocity as given, bit for bit.
  * - 1 with rubber_band 0 leaves the offset from bounds min to bounds max, both included, and the velocity as given.
  * - A source other than 4, momentum, ends with bounced 0, whatever the answer.
- * - 0 is answered exactly when delta is 0, or none of these takes the turn: the offset can move that way (delta < 0 and
- *   bounds min < offset, or 0 < delta and offset < bounds max); rubber banding (rubber_band 1, source 3 or 4, trackpad or
- *   momentum, and the offset can move that way, or lies outside the bounds, or can_chain_to_parent is 0); momentum after
- *   a bounce (rubber_band 1, source 4, bounced given as 1).
- * A frame turns its axes by the same law; its wheel delta left is 0 where an axis took the turn. */
+ * - 0 is answered exactly when delta is 0, or none of these three takes the turn:
+ *     can: (delta < 0 and bounds min < offset) or (0 < delta and offset < bounds max);
+ *     band: rubber_band is 1, source is 3 or 4 (trackpad, momentum), and at least one of: can; the offset lies outside
+ *       the bounds; can_chain_to_parent is 0;
+ *     corner: rubber_band is 1, source is 4, and bounced was given as 1.
+ * A frame turns its axes by the same law. Its wheel delta left is 0 on an axis that took its turn, and on both where the
+ * only-direction flag is set and the one direction that is enabled took it; otherwise it is as given. */
 uint32_t strakobud_wheel(const uint8_t call[52], uint8_t out[16]);
 
 #ifdef __cplusplus

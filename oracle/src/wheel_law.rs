@@ -80,7 +80,7 @@ impl Turn {
     }
 
     /// Whether the law has false answered.
-    pub fn is_left(&self) -> bool {
+    pub fn is_untaken(&self) -> bool {
         self.scroll.delta == 0.0 || !(self.can() || self.band() || self.corner())
     }
 
@@ -116,7 +116,7 @@ impl Turn {
             (answer || keeps_offset && keeps_velocity, LEFT_AS_GIVEN),
             (!stops_hard || is_inside && keeps_velocity, TAKEN_INSIDE),
             (self.is_momentum() || !wheeled.bounced, FLAG_CLEAR),
-            (answer != self.is_left(), LEFT_EXACTLY),
+            (answer != self.is_untaken(), LEFT_EXACTLY),
         ];
         let unkept = sentences.iter().find(|(is_kept, _)| !is_kept);
         unkept.map(|(_, words)| *words)

@@ -69,15 +69,6 @@ fn they_stand_ahead_of_the_given_records() {
 }
 
 #[test]
-fn every_ground_has_its_frames() {
-    for (ground, words) in OF_TURNS {
-        let met = TURNS.iter().filter(|turn| turn.1 == *ground).count();
-        assert!(met >= 2, "{words}: {met}");
-    }
-    assert!((1..).zip(TURNS).all(|(number, turn)| turn.0 == number));
-}
-
-#[test]
 fn every_frame_is_accepted_and_leaves_what_is_listed() {
     for ((number, _, offset, velocity, bounced, has_target), (_, left, output)) in
         TURNS.into_iter().zip(played())

@@ -119,10 +119,11 @@ fn the_bounce_flag_stays_with_momentum_alone() {
 fn a_refused_call_is_outside_the_law() {
     let turns: Vec<Turn> = fixed_list().iter().filter_map(Call::turn).collect();
     let mut refused = turns.iter().map(|turn| (turn, turned(turn)));
-    // Refused for its bounds, where the flag stays set and the law would have it clear.
+    // Refused with 4, where the flag stays set and the law would have it clear.
     let met = refused.any(|(turn, left)| {
         let as_accepted = Wheeled { refusal: 0, ..left };
-        left.refusal == 4 && turn.broken(&as_accepted).is_some() && turn.broken(&left).is_none()
+        let broken = turn.broken(&as_accepted).unwrap_or_default();
+        left.refusal == 4 && broken.starts_with("a source other") && turn.broken(&left).is_none()
     });
     assert!(met);
 }

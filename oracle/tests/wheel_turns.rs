@@ -82,8 +82,8 @@ fn room_does_not_include_the_end() {
             let (bounds, delta) = (turn.axis.bounds, turn.scroll.delta);
             let can = (delta < 0.0 && bounds.min <= turn.offset)
                 || (0.0 < delta && turn.offset <= bounds.max);
-            let is_left = delta == 0.0 || !(can || turn.band() || turn.corner());
-            left.answer != is_left
+            let is_untaken = delta == 0.0 || !(can || turn.band() || turn.corner());
+            left.answer != is_untaken
         },
         back_from_the_start(),
     );
@@ -97,8 +97,8 @@ fn no_parent_is_a_ground_of_the_band() {
             let is_outside = turn.offset < bounds.min || bounds.max < turn.offset;
             let may_stretch = [TRACKPAD, MOMENTUM].contains(&turn.scroll.source);
             let band = turn.axis.style.rubber_band && may_stretch && (turn.can() || is_outside);
-            let is_left = turn.scroll.delta == 0.0 || !(turn.can() || band || turn.corner());
-            left.answer != is_left
+            let is_untaken = turn.scroll.delta == 0.0 || !(turn.can() || band || turn.corner());
+            left.answer != is_untaken
         },
         trackpad_without_a_parent(),
     );
@@ -128,8 +128,8 @@ fn inside_the_bounds_includes_the_ends() {
 fn momentum_after_a_bounce_is_a_ground() {
     assert_wrong(
         |turn, left| {
-            let is_left = turn.scroll.delta == 0.0 || !(turn.can() || turn.band());
-            left.answer != is_left
+            let is_untaken = turn.scroll.delta == 0.0 || !(turn.can() || turn.band());
+            left.answer != is_untaken
         },
         momentum_after_a_bounce(),
     );
@@ -170,7 +170,7 @@ fn no_delta_has_nothing_to_take() {
             for offset in [-10.0, 0.0, 150.0, 310.0] {
                 let turn = bounced(without_parent(turn(true, source, offset, delta)));
                 assert_eq!(turn.ground(), Ground::Zero);
-                assert!(turn.is_left() && !turned(&turn).answer);
+                assert!(turn.is_untaken() && !turned(&turn).answer);
             }
         }
     }

@@ -74,8 +74,8 @@ turned-holds physics scroll m rubberBanding bounced covered =
     chosen (λ (t : Turned). Holds (leftOf t)) (r .consumed) (taken physics r) (untaken m rubberBanding r) (λ e. subst answered e holds) (λ e. subst answered e holds)
 
 pub turn-holds : (bytes : List ℕ) (d : ℕ) (before : AxisBefore) (space : AxisSpace) (extent : AxisExtent) (wheel : WheelHeard) (m : AxisMotion)
-    → (rubberBanding : Bool) → d < 2 → frameRefusal bytes ≡ 0
-    → TurnHolds (frameOf bytes) d before space extent wheel m (turnedOf (frameOf bytes) d before space extent wheel m rubberBanding)
+    → (rubberBanding : Bool) → d < 2
+    → TurnHolds bytes d before space extent wheel m (turnedOf (frameOf bytes) d before space extent wheel m rubberBanding)
 unfolding turnedOf
 turn-holds bytes d before space extent wheel m rubberBanding l h turns =
     let f = frameOf bytes in

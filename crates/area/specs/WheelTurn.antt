@@ -1,6 +1,7 @@
 -- Prepared::end, "wheel": who hears it, and a turn of it on one axis.
 use Prim.Native.Nat.{ℕ}
 use mathlib.Core.Path.{_≡_}
+use mathlib.Core.List.{List}
 use mathlib.Core.Bool.{Bool, true, false, cond, not, _&&_, _||_, Bool·beq}
 use lib.Ieee.{Float, neg}
 use Rattle.numbers.specs.F32.{plus, times}
@@ -12,6 +13,8 @@ use Rattle.axis.specs.declared.physics.AxisPhysics.{AxisPhysics}
 use Rattle.axis.specs.declared.wheel.WheelScroll.{WheelScroll}
 use Rattle.axis.specs.declared.wheel.Wheeled.{Wheeled}
 use Rattle.area.specs.Begin.{dtOf}
+use Rattle.area.specs.Frame.{frameOf}
+use Rattle.area.specs.Checks.{frameRefusal}
 use Rattle.area.specs.Pair.{num, flag}
 use Rattle.area.specs.State.{noTarget}
 use Rattle.area.specs.Geometry.{pickOf, rectContainsPointer}
@@ -108,9 +111,12 @@ leftOf t = record {
   consumed = t .consumed;
 }
 
--- where the axis is turned, document 02's law of which turns are taken (K6; crates/axis/specs/WheelLaw.antt) holds of what it leaves
-abbrev pub TurnHolds : Frame → ℕ → AxisBefore → AxisSpace → AxisExtent → WheelHeard → AxisMotion → Turned → Type 0
-TurnHolds f d before space extent wheel m t =
-    (wheel .heard && flag (f .settings .«direction_enabled») d) ≡ true
+-- in a frame that passes checks 1 to 5, where the axis is turned, document 02's law of which turns are taken (K6;
+-- crates/axis/specs/WheelLaw.antt) holds of what it leaves
+abbrev pub TurnHolds : List ℕ → ℕ → AxisBefore → AxisSpace → AxisExtent → WheelHeard → AxisMotion → Turned → Type 0
+TurnHolds bytes d before space extent wheel m t =
+    let f = frameOf bytes in
+    frameRefusal bytes ≡ 0
+    → (wheel .heard && flag (f .settings .«direction_enabled») d) ≡ true
     → WheelHolds (wheelPhysicsOf f d before space extent) (m .offset) (m .vel) (wheelScrollOf f d (wheel .«always_scroll_enabled_direction»))
     (before .«bounced_this_momentum») (leftOf t)

@@ -2,7 +2,6 @@
 ghost use mathlib.Core.Path.{_≡_};
 ghost use Prim.Native.Nat.{_<_};
 ghost use Rattle.area.specs.Frame.{Whole, frameOf};
-ghost use Rattle.area.specs.Checks.{frameRefusal};
 ghost use Rattle.area.specs.WheelTurn as Spec;
 use crate::axis_physics::physics_of;
 use crate::begin::dt_of;
@@ -65,8 +64,7 @@ pub fn turn_axis(
 ) -> Turned
     requires { ⌜ Whole (now frame) × (d < 2) ⌝ }
     ensures answers { λ r. ⌜ r ≡ Spec.turnedOf (frameOf (now (frame .entry))) d before space extent wheel motion «rubber_banding» ⌝ }
-    ensures holds { λ r. ⌜ (frameRefusal (now (frame .entry)) ≡ 0
-        → Spec.TurnHolds (frameOf (now (frame .entry))) d before space extent wheel motion r) ⌝ }
+    ensures holds { λ r. ⌜ Spec.TurnHolds (now (frame .entry)) d before space extent wheel motion r ⌝ }
 {
     let enabled = settings_words::direction_enabled(frame, d);
     if wheel.heard & enabled {

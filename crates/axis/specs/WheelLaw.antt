@@ -36,7 +36,7 @@ abbrev pub overscroll : AxisPhysics → Float → Float
 overscroll axis offset =
     minus offset (cond (lt offset (axis .bounds .min)) (axis .bounds .min) (cond (lt (axis .bounds .max) offset) (axis .bounds .max) offset))
 
--- of numbers of f32 that is other than 0 exactly where the offset lies outside the bounds (proofs/WheelLaws.antt)
+-- of finite numbers of f32 that is other than 0 exactly where the offset lies outside the bounds (proofs/WheelLaws.antt)
 abbrev pub isOutside : AxisPhysics → Float → Bool
 isOutside axis offset = lt offset (axis .bounds .min) || lt (axis .bounds .max) offset
 

@@ -69,7 +69,12 @@ module _ (call : List ℕ) (a : WheelAnswer) (same : a ≡ wheelCallOf (axisOf c
             (ofBits-fits binary32 _, finite .offset-finite);
         offset-word = λ h. of-number out 1 (a .wheeled .offset) offset (word a offset vel 0 (number-small _ offset)) h ∙ finite-word (wordNo call 7) small-7 (finite .offset-finite);
         velocity-word = λ h. of-number out 2 (a .wheeled .vel) vel (word a offset vel 1 (number-small _ vel)) h ∙ finite-word (wordNo call 8) small-8 (finite .vel-finite);
+        bounced-word = of-flag out 3 (a .wheeled .«bounced_this_momentum») (word a offset vel 2 (flag-small (a .wheeled .«bounced_this_momentum»)));
+        answer-word = of-flag out 4 (a .wheeled .consumed) (word a offset vel 3 (flag-small (a .wheeled .consumed)));
       }
     where
       of-number : (s : List ℕ) (n : ℕ) (x : Float) → Is32 x → wordNo s n ≡ numberWord x → {y : Float} → numberNo s n ≡ y → wordNo s n ≡ toBits binary32 y
       of-number s n x held here same = here ∙ ap (toBits binary32) (sym (number-back s n x held here) ∙ same)
+
+      of-flag : (s : List ℕ) (n : ℕ) (b : Bool) → wordNo s n ≡ flagWord b → wordNo s n ≡ flagWord (flagNo s n)
+      of-flag s n b here = here ∙ ap flagWord (sym (flag-back s n b here))

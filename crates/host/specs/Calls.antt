@@ -147,9 +147,11 @@ abbrev pub wheeledOf : List ℕ → Wheeled
 wheeledOf out = record { offset = numberNo out 1; vel = numberNo out 2; «bounced_this_momentum» = flagNo out 3; consumed = flagNo out 4 }
 
 -- document 02's law of which turns are taken (K6; crates/axis/specs/WheelLaw.antt) holds of it; an overscroll other than 0 is an offset outside
--- the bounds; and what is "as given" is so word for word
+-- the bounds; what is "as given" is so word for word; and flag and answer are 0 or 1
 pub record WheelOnHolds (call out : List ℕ) : Type 0 where
   pub law : WheelHolds (axisOf call) (numberNo call 7) (numberNo call 8) (scrollOf call) (flagNo call 13) (wheeledOf out)
   pub outside : OverscrollIsOutside (axisOf call) (numberNo call 7)
   pub offset-word : numberNo out 1 ≡ numberNo call 7 → wordNo out 1 ≡ wordNo call 7
   pub velocity-word : numberNo out 2 ≡ numberNo call 8 → wordNo out 2 ≡ wordNo call 8
+  pub bounced-word : wordNo out 3 ≡ flagWord (flagNo out 3)
+  pub answer-word : wordNo out 4 ≡ flagWord (flagNo out 4)

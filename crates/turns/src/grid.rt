@@ -18,7 +18,7 @@ pub struct Turn {
     pub dt: f32,
 }
 
-// The number's digits choose: to the base 54 the place, to the base 5 the source, to the base 2 the rest.
+// The number's digits choose: to the base 60 the place, to the base 5 the source, to the base 2 the rest.
 pub fn turn_at(number: usize) -> Turn {
     let place = place_at(number % PLACES);
     let rest = number / PLACES;
@@ -29,8 +29,8 @@ pub fn turn_at(number: usize) -> Turn {
         rubber_band: is_odd(choices),
         parent: is_odd(choices / 2),
         bounced: is_odd(choices / 4),
-        vel: zero_or(is_odd(choices / 8), 40.0),
-        dt: zero_or(is_odd(choices / 16), 0.015625),
+        vel: pick(is_odd(choices / 8), 40.0, -0.0),
+        dt: pick(is_odd(choices / 16), 0.015625, 0.0),
     }
 }
 
@@ -48,9 +48,9 @@ fn is_odd(number: usize) -> bool {
     number % 2 == 1
 }
 
-fn zero_or(chosen: bool, other: f32) -> f32 {
-    if chosen {
-        return other;
+fn pick(first: bool, x: f32, y: f32) -> f32 {
+    if first {
+        return x;
     }
-    0.0
+    y
 }

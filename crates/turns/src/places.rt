@@ -1,8 +1,8 @@
 // Where a wheel turn meets the list, whose bounds are 0 to 300, and which way it points. Sides and ways are written beside the numbers, so
 // that no comparison of numbers decides which row of the table a turn belongs to.
 
-// Nine offsets with six deltas each.
-pub const PLACES: usize = 54;
+// Ten offsets with six deltas each.
+pub const PLACES: usize = 60;
 
 const DELTAS: usize = 6;
 
@@ -51,7 +51,7 @@ pub fn place_at(number: usize) -> Place {
     }
 }
 
-// 1e-45 is the least f32 above 0, and 300.00003 the least above 300; -0 lies on the start, as it equals 0.
+// 1e-45 is the least f32 above 0, and 299.99997 and 300.00003 stand next to 300; -0 lies on the start, as it equals 0.
 fn offset_at(number: usize) -> Offset {
     match number {
         0 => Offset(-10.0, Side::Before),
@@ -60,8 +60,9 @@ fn offset_at(number: usize) -> Offset {
         3 => Offset(0.0, Side::Start),
         4 => Offset(1e-45, Side::Between),
         5 => Offset(150.0, Side::Between),
-        6 => Offset(300.0, Side::End),
-        7 => Offset(300.00003, Side::After),
+        6 => Offset(299.99997, Side::Between),
+        7 => Offset(300.0, Side::End),
+        8 => Offset(300.00003, Side::After),
         _ => Offset(310.0, Side::After),
     }
 }

@@ -1,7 +1,7 @@
 //! A list of events on a panel: rows arrive and the list stays on its last entry. A row that arrives with a touch sample that is
 //! not a number is refused with it, and shown once the frame is run again without its input. Then a table for the decay is loaded
-//! and serves; somebody flicks the list, which coasts until it rests; and the clock is set back. Words are numbered from 1, as in
-//! include/strakobud.h.
+//! and serves; somebody flicks the list, which coasts until it rests; the clock is set back; and a wheel is turned at the end of a
+//! list. Words are numbered from 1, as in include/strakobud.h.
 
 struct Frame([u8; 416]);
 

@@ -1,12 +1,11 @@
 //! Fixed calls of wheel: who takes a turn, at every end and on every ground.
 
-use super::scene::{Scene, Wheel, MOMENTUM, PLAIN, RUBBER, SCROLL, TRACKPAD};
+use super::scene::{Scene, Wheel, MOMENTUM, PLAIN, RUBBER, SCROLL, TRACKPAD, WHEEL};
 use super::{Call, List};
 use crate::words::SMALLEST;
 
 /// Document 01: "source (0 none, 1 Unknown, 2 Wheel, 3 Trackpad, 4 Momentum)".
 const SOURCES: [u32; 5] = [0, 1, WHEEL, TRACKPAD, MOMENTUM];
-const WHEEL: u32 = 2;
 
 /// Outside both ends, by much and by one step; on them; one step behind the start, and in the middle.
 const OFFSETS: [f32; 9] = [
@@ -142,9 +141,10 @@ fn add_turns(
 /// With and without a parent where one can matter: the rubber band is on and there is a delta. Else one of the two, by turns.
 fn add_parents(list: &mut List, scene: Scene, wheel: Wheel) {
     let matters = scene.rubber_band && wheel.delta != 0.0;
-    let turn = wheel.source + u32::from(wheel.bounced) + u32::from(wheel.delta.is_sign_negative());
+    let flags = u32::from(wheel.bounced) + u32::from(wheel.delta.is_sign_negative());
+    let is_odd = (wheel.source + flags) % 2 == 1;
     for can_chain in [false, true] {
-        if matters || can_chain == (turn % 2 == 1) {
+        if matters || can_chain == is_odd {
             list.add(scene.wheel(Wheel { can_chain, ..wheel }));
         }
     }

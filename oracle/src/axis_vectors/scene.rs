@@ -2,6 +2,7 @@
 
 use super::{Call, Kind};
 
+pub const WHEEL: u32 = 2;
 pub const TRACKPAD: u32 = 3;
 pub const MOMENTUM: u32 = 4;
 

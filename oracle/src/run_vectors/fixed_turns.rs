@@ -5,10 +5,8 @@
 
 use super::lists::{with_band, NOW};
 use super::Record;
-use crate::axis_vectors::scene::{MOMENTUM, TRACKPAD};
+use crate::axis_vectors::scene::{MOMENTUM, TRACKPAD, WHEEL};
 use crate::frame_vectors::Frame;
-
-const WHEEL: u32 = 2;
 
 /// The largest dt, so that a bounce is soon over.
 const PACE: f64 = 0.1;

@@ -4,7 +4,6 @@ use mathlib.Core.List.{List}
 use Prim.Native.Nat.{ℕ, _<_}
 use borrow.Author.Needs.{needs}
 use Rattle.area.specs.Frame.{frameOf}
-use Rattle.area.specs.Checks.{frameRefusal}
 use Rattle.area.specs.WheelTurn.{turnedOf, wheelPhysicsOf, TurnHolds}
 use Rattle.area.specs.declared.prepared.AxisBefore.{AxisBefore}
 use Rattle.area.specs.declared.prepared.AxisMotion.{AxisMotion}
@@ -20,9 +19,9 @@ use Rattle.area.proofs.wheel_turn.turn_axis.Tie as tie
 told : (bytes : List ℕ) (d : ℕ) (before : AxisBefore) (space : AxisSpace) (extent : AxisExtent) (wheel : WheelHeard) (m : AxisMotion) (rubberBanding : Bool)
     → (t : Turned) → d < 2 → t ≡ turnedOf (frameOf bytes) d before space extent wheel m rubberBanding
     → (t ≡ turnedOf (frameOf bytes) d before space extent wheel m rubberBanding)
-    × (frameRefusal bytes ≡ 0 → TurnHolds (frameOf bytes) d before space extent wheel m t)
+    × TurnHolds bytes d before space extent wheel m t
 told bytes d before space extent wheel m rubberBanding t l e =
-    (e, λ h. subst (TurnHolds (frameOf bytes) d before space extent wheel m) (sym e) (turn-holds bytes d before space extent wheel m rubberBanding l h))
+    (e, subst (TurnHolds bytes d before space extent wheel m) (sym e) (turn-holds bytes d before space extent wheel m rubberBanding l))
 
 direction-enabled-requires : tie.Need-direction-enabled-requires
 direction-enabled-requires c κs = search needs

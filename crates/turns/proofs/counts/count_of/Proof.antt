@@ -9,7 +9,7 @@ abbrev Inv-loop : tie.InvT-loop
 Inv-loop counted count₀ number₀ count number = count ≤ number
 
 abbrev μ-loop : tie.MeasureT-loop
-μ-loop counted count₀ number₀ count number = 8640 - number
+μ-loop counted count₀ number₀ count number = 9600 - number
 
 loop-holds : tie.Need-loop-holds Inv-loop μ-loop
 loop-holds c = omega arith

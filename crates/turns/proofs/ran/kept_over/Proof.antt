@@ -8,7 +8,7 @@ abbrev Inv-loop : tie.InvT-loop
 Inv-loop row kept₀ number₀ kept number = Unit {0}
 
 abbrev μ-loop : tie.MeasureT-loop
-μ-loop row kept₀ number₀ kept number = 8640 - number
+μ-loop row kept₀ number₀ kept number = 9600 - number
 
 nothing-requires : tie.Need-nothing-requires Inv-loop μ-loop
 nothing-requires c κs = tt
