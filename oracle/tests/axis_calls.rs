@@ -1,23 +1,11 @@
 //! Document 01's readings on the axis and its corners, by value.
 
-use oracle::axis_calls::{drag, step, wheel, Dragged, Stepped, Wheeled};
-use oracle::numbers::Rangef;
-use oracle::scroll_physics::{
-    scroll_bounds, AxisPhysics, KineticScrollStyle, MouseWheelSource, WheelScroll,
-};
+#[path = "common/axis.rs"]
+mod common;
 
-/// Document 01: "Bounds 0 to 300, extent 100".
-fn axis(rubber_band: bool) -> AxisPhysics {
-    AxisPhysics {
-        bounds: Rangef::new(0.0, 300.0),
-        viewport_extent: 100.0,
-        style: KineticScrollStyle {
-            decay_time: 1.0,
-            stop_distance: 1.0,
-            rubber_band,
-        },
-    }
-}
+use common::axis;
+use oracle::axis_calls::{drag, step, wheel, Dragged, Stepped, Wheeled};
+use oracle::scroll_physics::{scroll_bounds, AxisPhysics, MouseWheelSource, WheelScroll};
 
 fn scroll(delta: f32, source: Option<MouseWheelSource>) -> WheelScroll {
     WheelScroll {

@@ -1,5 +1,9 @@
 //! Document 02's K6 by value: who takes a turn, and calls on which wrong statements of the law are false.
 
+#[path = "common/axis.rs"]
+mod common;
+
+use common::axis;
 use oracle::axis_calls::{turned, Wheeled};
 use oracle::axis_vectors::fixed_wheel_turns::{
     back_from_the_start, left_while_moving, momentum_after_a_bounce, onto_the_end,
@@ -7,7 +11,7 @@ use oracle::axis_vectors::fixed_wheel_turns::{
 };
 use oracle::axis_vectors::{fixed_list, Call};
 use oracle::numbers::Rangef;
-use oracle::scroll_physics::{AxisPhysics, KineticScrollStyle, MouseWheelSource, WheelScroll};
+use oracle::scroll_physics::{MouseWheelSource, WheelScroll};
 use oracle::wheel_law::{Ground, Turn};
 use oracle::words::SMALLEST;
 
@@ -25,15 +29,7 @@ const SOURCES: [Option<MouseWheelSource>; 5] = [
 /// Bounds 0 to 300, a parent, no bounce before.
 fn turn(rubber_band: bool, source: Option<MouseWheelSource>, offset: f32, delta: f32) -> Turn {
     Turn {
-        axis: AxisPhysics {
-            bounds: Rangef::new(0.0, 300.0),
-            viewport_extent: 100.0,
-            style: KineticScrollStyle {
-                decay_time: 1.0,
-                stop_distance: 1.0,
-                rubber_band,
-            },
-        },
+        axis: axis(rubber_band),
         offset,
         velocity: 5.0,
         scroll: WheelScroll {
