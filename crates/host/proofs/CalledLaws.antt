@@ -49,9 +49,10 @@ use Rattle.area.proofs.outcome.Answer as answer
 use Rattle.area.proofs.frame_by as call
 use Rattle.area.proofs.frame_by.Met.{met}
 use Rattle.area.proofs.frame_by.Symbol.{routine}
-use Rattle.host.specs.Record.{recordOf, stateOf, IsHeld}
+use Rattle.records.specs.Record.{recordOf, stateOf}
+use Rattle.records.specs.Held.{IsHeld}
 use Rattle.host.specs.Lists.{AreBytes, AreTable}
-use Rattle.host.proofs.BackLaws.{written-is-read}
+use Rattle.records.proofs.BackLaws.{written-is-read}
 use Rattle.host.proofs.TypedLaws.{typed-is-held, held-is-typed}
 
 all-fit : (bytes : List ℕ) → AreBytes bytes → AllFit w8 bytes

@@ -23,7 +23,7 @@ use denote.Ref.{now}
 use denote.Triple.Entry.{Args}
 use denote.Triple.Clauses.{AtExit}
 use Rattle.area.specs.Clock.{resetOf}
-use Rattle.host.specs.Record.{stateOf}
+use Rattle.records.specs.Record.{stateOf}
 use Rattle.host.specs.Lists.{FrameOnSays, SettleOnSays, ResetOnSays}
 use Rattle.numbers.specs.Table.{tableOf}
 use Rattle.host.proofs.area_calls.strakobud_frame as frame

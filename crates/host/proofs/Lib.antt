@@ -1,11 +1,6 @@
--- How the words are put; that they are read back; and what follows for a state between two calls.
-pub mod PartLaws
-pub mod RecordLaws
-pub mod ReadLaws
-pub mod BackLaws
+-- Tables as they are put; the run; what holds of a state that is written and read again between two calls, and of lists of calls.
 pub mod TableLaws
 pub mod SettlingRunLaws
-pub mod HeldLaws
 pub mod ResetLaws
 pub mod TypedLaws
 pub mod WheelLaws

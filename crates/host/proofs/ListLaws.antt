@@ -10,7 +10,7 @@ use borrow.Author.Tests.{ltb-false}
 use lib.Dec.{eqb, ltb}
 use lib.Ieee.{Float, binary32, binary64}
 use lib.Ieee.Bits.{ofBits-fits}
-use Rattle.words.specs.Words.{bytesOf}
+use Rattle.words.specs.Words.{wordAt, bytesOf}
 use Rattle.numbers.specs.F32 as F32
 use Rattle.numbers.specs.Table.{Table, tableOf}
 use Rattle.area.specs.State.{default}
@@ -28,15 +28,16 @@ use Rattle.area.proofs.CallLaws.{step-is-call, refusal-keeps, whole-if-passed, 
 use Rattle.area.proofs.SettlingRunLaws.{whole-of-run}
 use Rattle.area.proofs.RunLaws.{goes, none-used, run-holds}
 use Rattle.area.proofs.ListLaws.{state-append}
-use Rattle.host.specs.Record.{recordOf, outWords, stateOf, isDamaged, ArePair, IsHeld}
+use Rattle.records.specs.Record.{recordOf, outWords, stateOf, isDamaged}
+use Rattle.records.specs.Held.{ArePair, IsHeld}
 use Rattle.host.specs.Calls.{FrameLeft, leftBy, frameUnder, freshBytes, resetOn}
 use Rattle.host.specs.SettlingRun.{RunLeft, incrementOf, limitOf, upFrontOn, ranUnder, ranBy, settleUnder}
 use Rattle.host.specs.Lists.{FrameOnSays, SettleOnSays, AreBytes, AreTable, RecordCall, onFrame, onRun, onReset}
 use Rattle.host.specs.Lists.{RecordTold, ofFrame, ofRun, ofReset}
 use Rattle.host.specs.Lists.{callOf, AreCall, AreCalls, HaveNoRuns, RecordRun, ends, framed, settled, cleared}
 use Rattle.host.specs.Lists.{AnswersAlong, no-more, frame-too, run-too, reset-too, feedOn, RecordWhole, AllRecordLists}
-use Rattle.host.proofs.BackLaws.{written-is-read, written-is-undamaged}
-use Rattle.host.proofs.HeldLaws.{read-is-held}
+use Rattle.records.proofs.BackLaws.{written-is-read, written-is-undamaged}
+use Rattle.records.proofs.HeldLaws.{read-is-held}
 use Rattle.host.proofs.ResetLaws.{reset-of}
 use Rattle.host.proofs.CalledLaws.{call-is-held, held-is-read-back}
 use Rattle.host.proofs.RunHeldLaws.{words-are, advanced-are, run-is-held}
@@ -50,7 +51,7 @@ IsRecord s = s ≡ recordOf (stateOf s)
 -- a call on a record is the frame call on its state
 frame-is-step : (table : Table) (s frame out : List ℕ) → IsRecord s → frameUnder table s frame out ≡ leftBy (stepAt table (stateOf s) frame) s out
 unfolding frameUnder
-frame-is-step table s frame out is = rw (ap isDamaged is ∙ written-is-undamaged (stateOf s), step-is-call table (stateOf s) frame)
+frame-is-step table s frame out is = rw (ap (λ (b : List ℕ). isDamaged (wordAt b) 0) is ∙ written-is-undamaged (stateOf s), step-is-call table (stateOf s) frame)
 
 -- what an accepted frame reaches is read back as it is written
 accepted-is-read-back : (s frame table : List ℕ) → AreBytes frame → AreTable table → isAccepted (stepAt (tableOf table) (stateOf s) frame) ≡ true
@@ -115,7 +116,7 @@ module _ (s frame table run used : List ℕ) where
   -- a run on a record is a run on its state
   run-is-run : IsRecord s → settleUnder (tableOf table) s frame run used ≡ ranBy upFront ran s used
   unfolding settleUnder upFrontOn ranUnder
-  run-is-run is = rw (ap isDamaged is ∙ written-is-undamaged S)
+  run-is-run is = rw (ap (λ (b : List ℕ). isDamaged (wordAt b) 0) is ∙ written-is-undamaged S)
 
   told-is : told ≡ area.settleUnder (tableOf table) S frame (incrementOf run) (limitOf run)
   told-is = sym (run-holds (tableOf table) S frame (incrementOf run) (limitOf run) .by-steps)

@@ -18,10 +18,10 @@ use Rattle.area.specs.Frame.{wordNo, numberNo, flagNo, timeNo, timeWords, pairN
 use Rattle.area.specs.Clock.{resetOf}
 use Rattle.area.specs.declared.state.State.{State}
 use Rattle.area.proofs.TimeLaws.{time-written}
-use Rattle.host.specs.Record.{maybeTargetNo, offsetTargetNo, maybePressNo, startOffsetNo, stateWords, recordOf, stateOf}
+use Rattle.records.specs.Record.{maybeTargetNo, offsetTargetNo, maybePressNo, startOffsetNo, stateWords, recordOf, stateOf}
 use Rattle.host.specs.Calls.{resetOn}
-use Rattle.host.proofs.PartLaws.{wordsOf, bytes-append, words-append, put-after, total-is}
-use Rattle.host.proofs.RecordLaws.{fieldParts, timeParts, stateParts, field-right, state-right, state-words}
+use Rattle.records.proofs.PartLaws.{wordsOf, bytes-append, words-append, put-after, total-is}
+use Rattle.records.proofs.RecordLaws.{fieldParts, timeParts, stateParts, field-right, state-right, state-words}
 
 -- ---- any bytes
 module _ (s : List ℕ) (long : length s ≡ 156) where

@@ -18,7 +18,7 @@ use Rattle.area.specs.declared.«settling_run».Settled.{Settled}
 use Rattle.area.proofs.CallLaws.{step-is-call}
 use Rattle.area.proofs.AdvancedLaws.{advanced-whole}
 use Rattle.area.proofs.RunLaws.{Goes, ends, refused, rests, on}
-use Rattle.host.specs.Record.{IsHeld}
+use Rattle.records.specs.Held.{IsHeld}
 use Rattle.host.specs.Lists.{AreBytes, AreTable}
 use Rattle.host.proofs.CalledLaws.{call-is-held}
 

@@ -7,21 +7,22 @@ use native.Mathlib.Omega.{arith}
 use borrow.Author.Tests.{eqb-true}
 use lib.Dec.{eqb}
 use lib.ListN.{length}
+use Rattle.words.specs.Words.{wordAt}
 use Rattle.area.specs.Checks.{frameRefusal}
 use Rattle.area.specs.SettlingRun.{settleRefusal}
 use Rattle.numbers.proofs.TestLaws.{both-zero}
 use Rattle.area.proofs.SettlingRunLaws as area
-use Rattle.host.specs.Record.{stateOf, isDamaged}
+use Rattle.records.specs.Record.{stateOf, isDamaged}
 use Rattle.host.specs.Calls.{damagedRefusal}
 use Rattle.host.specs.SettlingRun.{incrementOf, limitOf, upFrontOn}
 
 -- ---- up front, of a damaged record and of any other
 module _ (state frame run : List ℕ) where
-  pub damaged-refused : isDamaged state ≡ true → upFrontOn state frame run ≡ damagedRefusal frame
+  pub damaged-refused : isDamaged (wordAt state) 0 ≡ true → upFrontOn state frame run ≡ damagedRefusal frame
   unfolding upFrontOn
   damaged-refused h = rw h
 
-  pub undamaged-asked : isDamaged state ≡ false → upFrontOn state frame run ≡ settleRefusal (stateOf state) frame (incrementOf run) (limitOf run)
+  pub undamaged-asked : isDamaged (wordAt state) 0 ≡ false → upFrontOn state frame run ≡ settleRefusal (stateOf state) frame (incrementOf run) (limitOf run)
   unfolding upFrontOn
   undamaged-asked h = rw h
 
@@ -38,4 +39,4 @@ unfolding upFrontOn
 whole-of-run state frame run r e a =
     let S = stateOf state in
     area.whole-of-run S frame (incrementOf run) (limitOf run) (settleRefusal S frame (incrementOf run) (limitOf run)) refl
-    (passed-by (isDamaged state) frame _ (ap (λ (k : ℕ). eqb k 0) (sym e) ∙ a))
+    (passed-by (isDamaged (wordAt state) 0) frame _ (ap (λ (k : ℕ). eqb k 0) (sym e) ∙ a))

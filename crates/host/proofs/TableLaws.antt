@@ -19,7 +19,7 @@ use Rattle.numbers.proofs.LoadLaws.{so-loads}
 use Rattle.host.specs.Calls.{frameUnder, stepUnder}
 use Rattle.host.specs.SettlingRun.{settleUnder}
 use Rattle.host.specs.Table.{entryWords, tableBytes, ServesAsT}
-use Rattle.host.proofs.PartLaws.{Part, Right, putParts, wordsOf, total, put-parts}
+use Rattle.records.proofs.PartLaws.{Part, Right, putParts, wordsOf, total, put-parts}
 
 -- ---- T's bytes, read entry by entry
 

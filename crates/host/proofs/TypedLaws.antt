@@ -30,7 +30,7 @@ use Rattle.area.proofs.state.OffsetTarget as offsetTarget
 use Rattle.area.proofs.state.MaybePress as maybePress
 use Rattle.area.proofs.state.StartOffset as startOffset
 use Rattle.area.proofs.state.MaybeRect as maybeRect
-use Rattle.host.specs.Record.{Is32, ArePair, AreFlags, IsTarget, AreTargets, IsPress, ArePresses, IsRect, IsHeld}
+use Rattle.records.specs.Held.{Is32, ArePair, AreFlags, IsTarget, AreTargets, IsPress, ArePresses, IsRect, IsHeld}
 
 -- ---- an array of two, whose elements go into the type's own by `into`
 two : {X Y : Type 0} (into : X → Y) (own : Y → List Val → Fml) (C : List X → Type 0)

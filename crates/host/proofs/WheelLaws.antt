@@ -18,9 +18,10 @@ use Rattle.axis.specs.WheelLaw.{WheelHolds}
 use Rattle.axis.specs.declared.call.WheelAnswer.{WheelAnswer}
 use Rattle.axis.proofs.WheelLaws.{AcceptedHolds, call-holds, call-passed, overscroll-is-outside}
 use Rattle.area.specs.Frame.{wordNo, numberNo, flagNo}
-use Rattle.host.specs.Record.{numberWord, flagWord, Is32}
+use Rattle.records.specs.Record.{numberWord, flagWord}
+use Rattle.records.specs.Held.{Is32}
 use Rattle.host.specs.Calls.{axisOf, scrollOf, wheeledOf, WheelOnHolds}
-use Rattle.host.proofs.BackLaws.{number-small, number-back, flag-small, flag-back}
+use Rattle.records.proofs.BackLaws.{number-small, number-back, flag-small, flag-back}
 
 -- the four words
 abbrev pub wheelWords : WheelAnswer → List ℕ

@@ -4,7 +4,7 @@ use mathlib.Core.Path.{_≡_}
 use mathlib.Core.Bool.{Bool, cond, _||_}
 use mathlib.Core.List.{List, [], _∷_}
 use lib.Dec.{eqb, ltb}
-use Rattle.words.specs.Words.{bytesOf, putAt}
+use Rattle.words.specs.Words.{wordAt, bytesOf, putAt}
 use Rattle.numbers.specs.Table.{Table, tableAt}
 use Rattle.axis.specs.Call.{dragCallOf, stepCallUnder, wheelCallOf}
 use Rattle.axis.specs.WheelLaw.{OverscrollIsOutside, WheelHolds}
@@ -19,7 +19,7 @@ use Rattle.area.specs.Frame.{wordNo, numberNo, flagNo, timeWords, sourceNo}
 use Rattle.area.specs.Checks.{frameRefusal}
 use Rattle.area.specs.Call.{callUnder}
 use Rattle.area.specs.declared.outcome.Answer.{Answer}
-use Rattle.host.specs.Record.{numberWord, numberWords, flagWord, recordOf, outWords, stateOf, isDamaged, isNoFlag}
+use Rattle.records.specs.Record.{numberWord, numberWords, flagWord, recordOf, outWords, stateOf, isDamaged, isNoFlag}
 
 -- strakobud_fresh
 unfoldable pub freshBytes : List ℕ
@@ -49,7 +49,7 @@ damagedRefusal frame = cond (eqb (frameRefusal frame) 0) 6 (frameRefusal frame)
 -- under a table
 unfoldable pub frameUnder : Table → List ℕ → List ℕ → List ℕ → FrameLeft
 frameUnder table state frame out =
-    cond (isDamaged state)
+    cond (isDamaged (wordAt state) 0)
     (record { refusal = damagedRefusal frame; state = state; out = out })
     (leftBy (callUnder table (stateOf state) frame) state out)
 
@@ -65,7 +65,7 @@ pub record Left : Type 0 where
 -- strakobud_offset
 unfoldable pub offsetOn : List ℕ → List ℕ → Left
 offsetOn state out =
-    cond (isDamaged state)
+    cond (isDamaged (wordAt state) 0)
     (record { refusal = 6; out = out })
     (record { refusal = 0; out = bytesOf (numberWords (clampedOffset (stateOf state))) })
 
@@ -87,7 +87,7 @@ dragLeft a call =
 
 unfoldable pub dragOn : List ℕ → Left
 dragOn call =
-    cond (isNoFlag call 6)
+    cond (isNoFlag (wordNo call) 6)
     (record { refusal = 2; out = bytesOf (wordNo call 7 ∷ []) })
     (dragLeft (dragCallOf (axisOf call) (numberNo call 7) (numberNo call 8)) call)
 
@@ -104,7 +104,7 @@ stepLeft a call =
 -- under a table
 unfoldable pub stepUnder : Table → List ℕ → Left
 stepUnder table call =
-    cond (isNoFlag call 6 || isNoFlag call 10)
+    cond (isNoFlag (wordNo call) 6 || isNoFlag (wordNo call) 10)
     (stepGiven call 2)
     (stepLeft (stepCallUnder table (axisOf call) (numberNo call 7) (numberNo call 8) (numberNo call 9) (flagNo call 10)) call)
 
@@ -134,7 +134,7 @@ wheelLeft a call =
     (wheelGiven call (a .refusal))
 
 abbrev pub isWheelOutside : List ℕ → Bool
-isWheelOutside call = isNoFlag call 6 || ltb 4 (wordNo call 10) || isNoFlag call 11 || isNoFlag call 13
+isWheelOutside call = isNoFlag (wordNo call) 6 || ltb 4 (wordNo call 10) || isNoFlag (wordNo call) 11 || isNoFlag (wordNo call) 13
 
 unfoldable pub wheelOn : List ℕ → Left
 wheelOn call =

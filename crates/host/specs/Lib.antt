@@ -1,5 +1,4 @@
--- Records of words; the calls on them, the settling run, and the calls on tables; and what holds of a list of calls.
-pub mod Record
+-- The calls on records, the settling run, and the calls on tables; and what holds of a list of calls.
 pub mod Calls
 pub mod SettlingRun
 pub mod Table

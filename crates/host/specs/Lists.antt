@@ -12,7 +12,7 @@ use Rattle.area.specs.Lists as area
 use Rattle.area.specs.declared.state.State.{State}
 use Rattle.area.specs.declared.outcome.Answer.{Answer}
 use Rattle.area.specs.declared.«settling_run».Settled.{Settled}
-use Rattle.host.specs.Record.{recordOf, stateOf}
+use Rattle.records.specs.Record.{recordOf, stateOf}
 use Rattle.host.specs.Calls.{FrameLeft, leftBy, frameUnder, resetOn}
 use Rattle.host.specs.SettlingRun.{RunLeft, incrementOf, limitOf, ranBy, settleUnder}
 

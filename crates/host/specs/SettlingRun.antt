@@ -4,13 +4,13 @@ use mathlib.Core.Bool.{cond}
 use mathlib.Core.List.{List, [], _∷_}
 use lib.Dec.{eqb, ltb}
 use lib.Ieee.{Float}
-use Rattle.words.specs.Words.{bytesOf}
+use Rattle.words.specs.Words.{wordAt, bytesOf}
 use Rattle.numbers.specs.Table.{Table, tableAt}
 use Rattle.area.specs.Frame.{wordNo, timeNo}
 use Rattle.area.specs.SettlingRun.{settleRefusal, settleFrom}
 use Rattle.area.specs.declared.state.State.{State}
 use Rattle.area.specs.declared.«settling_run».Settled.{Settled}
-use Rattle.host.specs.Record.{recordOf, stateOf, isDamaged}
+use Rattle.records.specs.Record.{recordOf, stateOf, isDamaged}
 use Rattle.host.specs.Calls.{damagedRefusal}
 
 -- a run's three words: the increment, written as a time is, and the limit
@@ -40,7 +40,7 @@ ranBy upFront r state used =
 -- a damaged record is 6, in 6's place
 unfoldable pub upFrontOn : List ℕ → List ℕ → List ℕ → ℕ
 upFrontOn state frame run =
-    cond (isDamaged state) (damagedRefusal frame) (settleRefusal (stateOf state) frame (incrementOf run) (limitOf run))
+    cond (isDamaged (wordAt state) 0) (damagedRefusal frame) (settleRefusal (stateOf state) frame (incrementOf run) (limitOf run))
 
 -- the frames of a run that is not turned back there
 unfoldable pub ranUnder : Table → State → List ℕ → List ℕ → Settled

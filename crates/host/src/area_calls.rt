@@ -2,16 +2,16 @@
 ghost use mathlib.Core.Path.{_≡_};
 ghost use Rattle.numbers.specs.Table.{tableOf};
 ghost use Rattle.area.specs.Clock.{resetOf};
-ghost use Rattle.host.specs.Record.{stateOf};
+ghost use Rattle.records.specs.Record.{stateOf};
 ghost use Rattle.host.specs.Calls as Spec;
 ghost use Rattle.host.specs.Lists.{AllRecordLists, ResetOnSays};
-use crate::read::is_damaged;
-use crate::read::state_of;
-use crate::write::put_numbers;
-use crate::write::put_outcome;
-use crate::write::put_state;
 use area::State;
 use area::put_time;
+use records::is_damaged;
+use records::put_numbers;
+use records::put_outcome;
+use records::put_state;
+use records::state_of;
 
 // A fresh state's record. Demand 3 holds of every list of frames, settling runs and resets on it, under tables or not.
 #[no_mangle]
@@ -59,7 +59,7 @@ fn frame_under(state: &mut [u8; 156], frame: &[u8], table: &[u8], out: &mut [u8;
     ensures { λ r. ⌜ record { refusal = r; state = now (state .exit); out = now (out .exit) }
         ≡ Spec.frameUnder (tableOf (now (table .entry))) (now (state .entry)) (now (frame .entry)) (now (out .entry)) ⌝ }
 {
-    if is_damaged(state) {
+    if is_damaged(state, 0) {
         return damaged_refusal(frame);
     }
     let a = area::frame_by(state_of(state), frame, table);
@@ -87,7 +87,7 @@ pub fn damaged_refusal(frame: &[u8]) -> u32
 pub extern "C" fn strakobud_offset(state: &[u8; 156], out: &mut [u8; 8]) -> u32
     ensures { λ r. ⌜ record { refusal = r; out = now (out .exit) } ≡ Spec.offsetOn (now (state .entry)) (now (out .entry)) ⌝ }
 {
-    if is_damaged(state) {
+    if is_damaged(state, 0) {
         return 6;
     }
     let offset = state_of(state).clamped_offset();

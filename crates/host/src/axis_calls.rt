@@ -2,11 +2,9 @@
 ghost use mathlib.Core.Path.{_≡_};
 ghost use Rattle.numbers.specs.Table.{tableOf};
 ghost use Rattle.axis.specs.Call.{dragCallOf, stepCallUnder, wheelCallOf};
-ghost use Rattle.area.specs.Frame.{Holds, numberNo, flagNo};
+ghost use Rattle.area.specs.Frame.{Holds, wordNo, numberNo, flagNo};
+ghost use Rattle.records.specs.Record.{isNoFlag, isNoFlags};
 ghost use Rattle.host.specs.Calls as Spec;
-use crate::read::is_no_flag;
-use crate::read::is_no_flags;
-use crate::write::flag_word;
 use area::flag_at;
 use area::number_at;
 use area::source_at;
@@ -19,6 +17,7 @@ use axis::call::StepAnswer;
 use axis::call::WheelAnswer;
 use numbers::Rangef;
 use numbers::bits_of_f32;
+use records::flag_word;
 
 // The words that begin each call.
 fn axis_of(call: &[u8]) -> AxisPhysics
@@ -37,6 +36,21 @@ fn axis_of(call: &[u8]) -> AxisPhysics
             rubber_band: flag_at(call, 6),
         },
     }
+}
+
+fn is_no_flag(s: &[u8], n: u32) -> bool
+    requires { ⌜ Holds (now s) n 0 ⌝ }
+    ensures { λ r. ⌜ r ≡ isNoFlag (wordNo (now (s .entry))) n ⌝ }
+{
+    1 < word_at(s, n)
+}
+
+// Either of two.
+fn is_no_flags(s: &[u8], m: u32, n: u32) -> bool
+    requires { ⌜ Holds (now s) m 0 × Holds (now s) n 0 ⌝ }
+    ensures { λ r. ⌜ r ≡ isNoFlags (wordNo (now (s .entry))) m n ⌝ }
+{
+    is_no_flag(s, m) | is_no_flag(s, n)
 }
 
 fn scroll_of(call: &[u8]) -> WheelScroll

@@ -2,10 +2,8 @@
 mod area_calls;
 mod axis_calls;
 mod check_calls;
-mod read;
 mod settle_calls;
 mod table_calls;
-mod write;
 
 pub use area_calls::strakobud_frame;
 pub use area_calls::strakobud_frame_by;

@@ -4,13 +4,13 @@ ghost use Rattle.numbers.specs.Table.{tableOf};
 ghost use Rattle.area.specs.Frame.{Whole};
 ghost use Rattle.host.specs.SettlingRun as Spec;
 use crate::area_calls::damaged_refusal;
-use crate::read::is_damaged;
-use crate::read::state_of;
-use crate::write::put_state;
 use area::Settled;
 use area::State;
 use area::time_at;
 use area::word_at;
+use records::is_damaged;
+use records::put_state;
+use records::state_of;
 
 // By table T.
 #[no_mangle]
@@ -69,7 +69,7 @@ fn settle_under(
 fn up_front(state: &[u8; 156], frame: &[u8], run: &[u8; 12]) -> u32
     ensures { λ r. ⌜ r ≡ Spec.upFrontOn (now (state .entry)) (now (frame .entry)) (now (run .entry)) ⌝ }
 {
-    if is_damaged(state) {
+    if is_damaged(state, 0) {
         return damaged_refusal(frame);
     }
     area::settle_refusal(state_of(state), frame, time_at(run, 1), word_at(run, 3))

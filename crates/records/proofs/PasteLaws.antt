@@ -1,13 +1,13 @@
 -- Words copied part after part fill the place of all the parts. Assumes nothing.
 use mathlib.Core.Path.{_≡_, refl, sym, ap, _∙_}
 use mathlib.Core.Bool.{Bool, true, false, cond}
-use mathlib.Core.List.{List, [], _∷_, _++_, append-nil, append-assoc}
+use mathlib.Core.List.{List, [], _∷_, _++_, append-assoc}
 use Prim.Native.Nat.{ℕ, zero, suc, _+_, _<_, _≤_}
 use native.Mathlib.Nat.{not-suc-le-zero, le-of-suc-le-suc}
 use native.Mathlib.Numerals.{add-one}
 use native.Mathlib.Omega.{arith}
 use lib.Dec.{eqb}
-use lib.ListN.{length, take, drop, getD, set, length-append, length-drop, drop-of-length-le, replicate, length-replicate, getD-replicate}
+use lib.ListN.{length, take, drop, getD, set, length-append, length-drop, drop-of-length-le, length-replicate, getD-replicate}
 use lib.Seq.{paste, paste-suc, take-append-seam, take-all, drop-append-add}
 use Rattle.records.specs.Tidied.{wordsFrom, wordsUnless, optionWords, tidied}
 use Rattle.records.proofs.PartLaws.{Part, Right, wordsOf, total}

@@ -1,7 +1,7 @@
 use borrow.Author.Needs.{needs}
-use Rattle.host.specs.Record.{numberWords}
+use Rattle.records.specs.Record.{numberWords}
 use Rattle.host.specs.Calls.{offsetOn}
-use Rattle.host.proofs.PartLaws.{put-all}
+use Rattle.records.proofs.PartLaws.{put-all}
 use Rattle.host.proofs.area_calls.strakobud_offset.Statement.{statement}
 use Rattle.host.proofs.area_calls.strakobud_offset.Tie as tie
 
@@ -30,7 +30,7 @@ returns-2 c =
       ← c .before .before .before .state-of .ensures,
       ← c .before .before .clamped-offset .ensures,
       c .put-numbers .ensures,
-      put-all (numberWords (c .before .before .clamped-offset .result)) (c .before .before .before .before .before .before .args .out .now) (search needs),
+      put-all (numberWords (c .before .before .clamped-offset .result)) (c .before .before .before .before .before .before .before .args .out .now) (search needs),
     )
 
 pub strakobud-offset-spec : {M : Type 1} → statement M

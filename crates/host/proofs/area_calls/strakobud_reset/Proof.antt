@@ -1,6 +1,6 @@
 use mathlib.Core.Path.{ap, _∙_}
 use borrow.Author.Needs.{needs}
-use Rattle.host.specs.Record.{stateOf}
+use Rattle.records.specs.Record.{stateOf}
 use Rattle.host.specs.Calls.{resetOn}
 use Rattle.host.proofs.ResetLaws.{reset-stands}
 use Rattle.host.proofs.area_calls.strakobud_reset.Statement.{statement}

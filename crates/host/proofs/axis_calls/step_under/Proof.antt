@@ -1,7 +1,7 @@
 use borrow.Author.Needs.{needs}
 use borrow.Author.Tests.{ne-eqb}
 use Rattle.host.specs.Calls.{stepUnder}
-use Rattle.host.proofs.PartLaws.{put-all}
+use Rattle.records.proofs.PartLaws.{put-all}
 use Rattle.host.proofs.axis_calls.step_under.Statement.{statement}
 use Rattle.host.proofs.axis_calls.step_under.Tie as tie
 

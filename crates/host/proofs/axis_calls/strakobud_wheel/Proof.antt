@@ -4,7 +4,7 @@ use native.Mathlib.Omega.{arith}
 use borrow.Author.Needs.{needs}
 use borrow.Author.Tests.{ne-eqb}
 use Rattle.host.specs.Calls.{wheelOn}
-use Rattle.host.proofs.PartLaws.{put-all}
+use Rattle.records.proofs.PartLaws.{put-all}
 use Rattle.host.proofs.TypedLaws.{answer-is-held}
 use Rattle.host.proofs.WheelLaws.{on-holds}
 use Rattle.host.proofs.axis_calls.strakobud_wheel.Statement.{statement}

@@ -2,7 +2,7 @@ use borrow.Author.Needs.{needs}
 use borrow.Author.Tests.{lt-ltb, le-ltb}
 use mathlib.Core.List.{[], _∷_}
 use Rattle.host.specs.SettlingRun.{settleUnder}
-use Rattle.host.proofs.PartLaws.{put-all}
+use Rattle.records.proofs.PartLaws.{put-all}
 use Rattle.host.proofs.SettlingRunLaws.{whole-of-run}
 use Rattle.host.proofs.settle_calls.settle_under.Statement.{statement}
 use Rattle.host.proofs.settle_calls.settle_under.Tie as tie
