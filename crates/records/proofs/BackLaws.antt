@@ -117,7 +117,7 @@ presses-back s n m (p ∷ q ∷ []) held first second = rw (press-back s n (p .p
 presses-back s n m (p ∷ q ∷ r ∷ v) held first second = absurd held
 
 -- ---- the state
-abbrev part : (s : State) (i : ℕ) → Reads (recordOf s) (start (stateParts s) i + 1) (partAt (stateParts s) i)
+abbrev pub part : (s : State) (i : ℕ) → Reads (recordOf s) (start (stateParts s) i + 1) (partAt (stateParts s) i)
 unfolding stateWords
 part s i = reads (stateParts s) i (state-right s)
 

@@ -1,4 +1,4 @@
--- How the words are put; that they are read back; and what follows for a state between two calls.
+-- How the words are put; that they are read back; what follows for a state between two calls; and what tidying a record keeps.
 pub mod PartLaws
 pub mod RecordLaws
 pub mod ReadLaws
@@ -6,3 +6,5 @@ pub mod BackLaws
 pub mod HeldLaws
 pub mod PasteLaws
 pub mod TidiedLaws
+pub mod TidiedStateLaws
+pub mod TidiedWrittenLaws

@@ -3,7 +3,7 @@ use mathlib.Core.Path.{_≡_, refl, sym, ap, _∙_}
 use mathlib.Core.Bool.{Bool, true, false, cond}
 use mathlib.Core.List.{List, [], _∷_, _++_, append-assoc}
 use Prim.Native.Nat.{ℕ, zero, suc, _+_, _<_, _≤_}
-use native.Mathlib.Nat.{not-suc-le-zero, le-of-suc-le-suc}
+use native.Mathlib.Nat.{add-zero, not-suc-le-zero, le-of-suc-le-suc}
 use native.Mathlib.Numerals.{add-one}
 use native.Mathlib.Omega.{arith}
 use lib.Dec.{eqb}
@@ -13,18 +13,15 @@ use Rattle.records.specs.Tidied.{wordsFrom, wordsUnless, optionWords, ti
 use Rattle.records.proofs.PartLaws.{Part, Right, wordsOf, total}
 
 -- ---- m words from word i on, or as many zeros
-from-length : (w : ℕ → ℕ) (i m : ℕ) → length (wordsFrom w i m) ≡ m
+pub from-length : (w : ℕ → ℕ) (i m : ℕ) → length (wordsFrom w i m) ≡ m
 unfolding wordsFrom
 from-length w i zero = refl
 from-length w i (suc m) = ap suc (from-length w (i + 1) m)
 
-from-get : (w : ℕ → ℕ) (i m j : ℕ) → j < m → getD (wordsFrom w i m) j 0 ≡ w (i + j)
+pub from-get : (w : ℕ → ℕ) (i m j : ℕ) → j < m → getD (wordsFrom w i m) j 0 ≡ w (i + j)
 unfolding wordsFrom
 from-get w i zero j below = absurd (not-suc-le-zero below)
-from-get w i (suc m) zero below = ap w (here i)
-  where
-    here : (i : ℕ) → i ≡ i + 0
-    here i = omega arith
+from-get w i (suc m) zero below = ap w (sym (add-zero i))
 from-get w i (suc m) (suc j) below = from-get w (i + 1) m j (le-of-suc-le-suc below) ∙ ap w (along i j)
   where
     along : (i j : ℕ) → i + 1 + j ≡ i + suc j

@@ -3,15 +3,16 @@ use mathlib.Core.Path.{_≡_, refl, sym, ap, _∙_}
 use mathlib.Core.Bool.{Bool, true, false, cond}
 use mathlib.Core.List.{List, [], _∷_, _++_}
 use Prim.Native.Nat.{ℕ, zero, suc, _+_, _<_}
-use native.Mathlib.Nat.{zero-add}
+use native.Mathlib.Nat.{add-zero, zero-add, add-assoc}
 use native.Mathlib.Omega.{arith}
 use lib.Dec.{eqb, eqb·suc-zero, lit<}
 use lib.ListN.{length, getD, replicate}
+use lib.Seq.{ext-getD}
 use Rattle.records.specs.Record.{isDamaged}
 use Rattle.records.specs.Tidied.{wordsFrom, wordsUnless, optionWords, tidied}
 use Rattle.records.proofs.PartLaws.{wordsOf, total-is}
 use Rattle.records.proofs.ReadLaws.{start, partAt, part-word}
-use Rattle.records.proofs.PasteLaws.{unless-length, unless-get, tidiedParts, tidied-right, tidied-parts}
+use Rattle.records.proofs.PasteLaws.{from-length, from-get, unless-length, unless-get, tidiedParts, tidied-right, tidied-parts}
 
 pub tidied-length : (w : ℕ → ℕ) (at : ℕ) → length (tidied w at) ≡ 39
 tidied-length w at = ap length (sym (tidied-parts w at)) ∙ total-is (tidiedParts w at) (tidied-right w at)
@@ -63,32 +64,23 @@ abbrev pub Same : (ℕ → ℕ) → (ℕ → ℕ) → ℕ → ℕ → ℕ → Ty
 Same v w k i m = (j : ℕ) → j < m → v (k + j) ≡ w (i + j)
 
 pub same-from : (v w : ℕ → ℕ) (k i m : ℕ) → Same v w k i m → wordsFrom v k m ≡ wordsFrom w i m
-unfolding wordsFrom
-same-from v w k i zero same = refl
-same-from v w k i (suc m) same =
-    ap (λ (x : ℕ). x ∷ wordsFrom v (k + 1) m) (ap v (here k) ∙ same 0 (omega arith) ∙ ap w (sym (here i)))
-    ∙ ap (λ (l : List ℕ). w i ∷ l) (same-from v w (k + 1) (i + 1) m (λ j below. ap v (along k j) ∙ same (suc j) (omega (arith, below)) ∙ ap w (sym (along i j))))
-  where
-    here : (i : ℕ) → i ≡ i + 0
-    here i = omega arith
+same-from v w k i m same =
+    ext-getD 0 (wordsFrom v k m) (wordsFrom w i m) (from-length v k m ∙ sym (from-length w i m)) (λ j below.
+    let inside : j < m = omega (arith, below, from-length v k m) in
+    from-get v k m j inside ∙ same j inside ∙ sym (from-get w i m j inside))
 
-    along : (i j : ℕ) → i + 1 + j ≡ i + suc j
-    along i j = omega arith
+-- the first of them
+first : (v w : ℕ → ℕ) (k i m : ℕ) → 0 < m → Same v w k i m → v k ≡ w i
+first v w k i m some same = ap v (sym (add-zero k)) ∙ same 0 some ∙ ap w (add-zero i)
 
 pub same-option : (v w : ℕ → ℕ) (k i m : ℕ) → 0 < m → Same v w k i m → optionWords v k m ≡ optionWords w i m
 same-option v w k i m some same =
-    ap (λ (x : ℕ). wordsUnless (eqb x 0) v k m) (ap v (here k) ∙ same 0 some ∙ ap w (sym (here i)))
+    ap (λ (x : ℕ). wordsUnless (eqb x 0) v k m) (first v w k i m some same)
     ∙ ap (λ (l : List ℕ). cond (eqb (w i) 0) (replicate m 0) l) (same-from v w k i m same)
-  where
-    here : (i : ℕ) → i ≡ i + 0
-    here i = omega arith
 
 -- the part of it from word p on
 within : (v w : ℕ → ℕ) (to at p m : ℕ) → p + m < 40 → ((i : ℕ) → i < 39 → v (to + i) ≡ w (at + i)) → Same v w (to + p) (at + p) m
-within v w to at p m inside same j below = ap v (along to p j) ∙ same (p + j) (omega (arith, inside, below)) ∙ ap w (sym (along at p j))
-  where
-    along : (a b c : ℕ) → a + b + c ≡ a + (b + c)
-    along a b c = omega arith
+within v w to at p m inside same j below = ap v (add-assoc to p j) ∙ same (p + j) (omega (arith, inside, below)) ∙ ap w (sym (add-assoc at p j))
 
 -- the nine parts the same
 joined : (w v : ℕ → ℕ) (at to : ℕ)
@@ -147,11 +139,8 @@ tidy-option : (v w : ℕ → ℕ) (k i m : ℕ) → 0 < m → ((j : ℕ) → j <
     → optionWords v k m ≡ optionWords w i m
 tidy-option v w k i m some tidy = go (eqb (w i) 0) refl
   where
-    here : (i : ℕ) → i ≡ i + 0
-    here i = omega arith
-
     flag : v k ≡ w i
-    flag = ap v (here k) ∙ tidy 0 some ∙ ap (λ (n : ℕ). cond (eqb (w i) 0) 0 (w n)) (sym (here i)) ∙ kept-flag (w i)
+    flag = ap v (sym (add-zero k)) ∙ tidy 0 some ∙ ap (λ (n : ℕ). cond (eqb (w i) 0) 0 (w n)) (add-zero i) ∙ kept-flag (w i)
 
     go : (absent : Bool) → eqb (w i) 0 ≡ absent → optionWords v k m ≡ optionWords w i m
     go true is =
@@ -177,20 +166,14 @@ module _ (w v : ℕ → ℕ) (at to : ℕ) (tidy : (i : ℕ) → i < 39 → v (t
       → v (to + p) ≡ w (at + p)
   option-flag n p m part here some inside =
       word-of (eqb (w (at + p)) 0) n (at + p) m 0 p part here some inside
-      ∙ ap (λ (i : ℕ). cond (eqb (w (at + p)) 0) 0 (w i)) (none (at + p))
+      ∙ ap (λ (i : ℕ). cond (eqb (w (at + p)) 0) 0 (w i)) (add-zero (at + p))
       ∙ kept-flag (w (at + p))
-    where
-      none : (i : ℕ) → i + 0 ≡ i
-      none i = omega arith
 
   -- word j of the plain part n, which begins at word p
   plain-flag : (n p m j k : ℕ) → partAt (tidiedParts w at) n ≡ wordsFrom w (at + p) m → start (tidiedParts w at) n + j ≡ k → j < m → p + j ≡ k → k < 39
       → v (to + k) ≡ w (at + k)
   plain-flag n p m j k part here below is inside =
-      word-of false n (at + p) m j k part here below inside ∙ ap w (along at p j k is)
-    where
-      along : (a p j k : ℕ) → p + j ≡ k → a + p + j ≡ a + k
-      along a p j k is = omega (arith, is)
+      word-of false n (at + p) m j k part here below inside ∙ ap w (add-assoc at p j ∙ ap (λ (q : ℕ). at + q) is)
 
   tidied-keeps-flags : isDamaged v to ≡ isDamaged w at
   tidied-keeps-flags =
@@ -212,13 +195,10 @@ module _ (w v : ℕ → ℕ) (at to : ℕ) (tidy : (i : ℕ) → i < 39 → v (t
       (plain-flag 8 35 4 1 36 refl refl (lit< tt) refl (lit< tt))
 
   -- the words of part n, which begins at word p
-  part-words : (absent : Bool) (n p i m : ℕ) → partAt (tidiedParts w at) n ≡ wordsUnless absent w i m → start (tidiedParts w at) n ≡ p → p + m < 40
+  pub part-words : (absent : Bool) (n p i m : ℕ) → partAt (tidiedParts w at) n ≡ wordsUnless absent w i m → start (tidiedParts w at) n ≡ p → p + m < 40
       → (j : ℕ) → j < m → v (to + p + j) ≡ cond absent 0 (w (i + j))
   part-words absent n p i m part here inside j below =
-      ap v (along to p j) ∙ word-of absent n i m j (p + j) part (ap (λ (q : ℕ). q + j) here) below (omega (arith, inside, below))
-    where
-      along : (a p j : ℕ) → a + p + j ≡ a + (p + j)
-      along a p j = omega arith
+      ap v (add-assoc to p j) ∙ word-of absent n i m j (p + j) part (ap (λ (q : ℕ). q + j) here) below (omega (arith, inside, below))
 
   plain-again : (n p m : ℕ) → partAt (tidiedParts w at) n ≡ wordsFrom w (at + p) m → start (tidiedParts w at) n ≡ p → p + m < 40
       → wordsFrom v (to + p) m ≡ wordsFrom w (at + p) m

@@ -1,10 +1,15 @@
 -- "absent options as zeros": the words of a record as stateWords has them, to be held beside it. The record begins at word at, and w gives the
 -- words by their number from 0.
-use Prim.Native.Nat.{ℕ, zero, suc, _+_}
+use Prim.Native.Nat.{ℕ, zero, suc, _+_, _<_}
+use mathlib.Core.Path.{_≡_}
 use mathlib.Core.Bool.{Bool, cond}
 use mathlib.Core.List.{List, [], _∷_, _++_}
 use lib.Dec.{eqb}
 use lib.ListN.{replicate}
+use Rattle.words.specs.Words.{wordAt, bytesOf}
+use Rattle.area.specs.declared.state.State.{State}
+use Rattle.records.specs.Record.{stateWords, recordOf, stateOf}
+use Rattle.records.specs.Held.{IsHeld}
 
 -- m words from word i on
 unfoldable pub wordsFrom : (ℕ → ℕ) → ℕ → ℕ → List ℕ
@@ -31,3 +36,8 @@ tidied w at =
     ++ (wordsFrom w (at + 28) 2
     ++ (optionWords w (at + 30) 5
     ++ wordsFrom w (at + 35) 4)))))))
+
+-- whatever a record holds, tidied it stands for the same state; and what the library writes is tidy
+pub record TidiedHolds : Type 0 where
+  pub stands : (s : List ℕ) → ((i : ℕ) → wordAt s i < 4294967296) → stateOf (bytesOf (tidied (wordAt s) 0)) ≡ stateOf s
+  pub written : (s : State) → IsHeld s → tidied (wordAt (recordOf s)) 0 ≡ stateWords s

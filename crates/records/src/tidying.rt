@@ -11,7 +11,8 @@ ghost use Rattle.records.specs.Tidied as Spec;
 // The record begins at word at.
 pub fn tidied(s: &[u8], at: u32) -> [u32; 39]
     requires { ⌜ HasRecord (now s) at ⌝ }
-    ensures { λ r. ⌜ r ≡ Spec.tidied (wordAt (now (s .entry))) at ⌝ }
+    ensures answers { λ r. ⌜ r ≡ Spec.tidied (wordAt (now (s .entry))) at ⌝ }
+    ensures holds { λ _. ⌜ Spec.TidiedHolds ⌝ }
 {
     let mut out: [u32; 39] = [0; 39];
     copy(s, at, 4, false, &mut out, 0);

@@ -4,6 +4,7 @@ use borrow.Author.Needs.{needs}
 use lib.ListN.{replicate}
 use Rattle.words.specs.Words.{wordAt}
 use Rattle.records.proofs.PasteLaws.{done, next, tidied-put}
+use Rattle.records.proofs.TidiedWrittenLaws.{tidied-holds}
 use Rattle.records.proofs.tidying.tidied.Statement.{statement}
 use Rattle.records.proofs.tidying.tidied.Tie as tie
 
@@ -119,17 +120,19 @@ returns c =
     let at-copy-option2 = at-copy2 .before .before .before in
     let at-copy-option = at-copy-option2 .before .before .before in
     let at-copy = at-copy-option .before .before .before in
-    let at-start = at-copy .before .before .before in
-    tidied-put (wordAt (at-start .args .s .now)) (at-start .args .at) {s = replicate 39 0} refl
-    (next (at-copy .copy .ensures)
-    (next (at-copy-option .copy-option .ensures)
-    (next (at-copy-option2 .copy-option2 .ensures)
-    (next (at-copy2 .copy2 .ensures)
-    (next (at-copy-option3 .copy-option3 .ensures)
-    (next (at-copy-option4 .copy-option4 .ensures)
-    (next (at-copy3 .copy3 .ensures)
-    (next (at-copy-option5 .copy-option5 .ensures)
-    (next (at-copy4 .copy4 .ensures) done)))))))))
+    let at-start = at-copy .before .before .before in (
+      tidied-put (wordAt (at-start .args .s .now)) (at-start .args .at) {s = replicate 39 0} refl
+          (next (at-copy .copy .ensures)
+          (next (at-copy-option .copy-option .ensures)
+          (next (at-copy-option2 .copy-option2 .ensures)
+          (next (at-copy2 .copy2 .ensures)
+          (next (at-copy-option3 .copy-option3 .ensures)
+          (next (at-copy-option4 .copy-option4 .ensures)
+          (next (at-copy3 .copy3 .ensures)
+          (next (at-copy-option5 .copy-option5 .ensures)
+          (next (at-copy4 .copy4 .ensures) done))))))))),
+      tidied-holds,
+    )
 
 pub tidied-spec : {M : Type 1} → statement M
 tidied-spec =
