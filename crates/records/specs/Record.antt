@@ -139,6 +139,6 @@ isDamaged w at =
     || isNoFlag w (at + 30)
     || isNoFlags w (at + 35) (at + 36)
 
--- the 39 words are all there; no buffer has more than some 2 ^ 30 words
+-- the 39 words are all there; the bound on at keeps their numbers within 32 bits
 abbrev pub HasRecord : List ℕ → ℕ → Type 0
 HasRecord s at = (4 * at + 156 ≤ length s) × (at < 1073741000)
