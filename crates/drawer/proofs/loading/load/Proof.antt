@@ -1,0 +1,103 @@
+use mathlib.Core.Path.{_≡_, refl, sym, ap, _∙_}
+use native.Mathlib.Omega.{arith}
+use borrow.Author.Tests.{not-true, not-false}
+use Rattle.words.specs.Words.{wordAt}
+use Rattle.drawer.specs.Calls.{width, loadOn}
+use lib.ListN.{length}
+use Rattle.records.proofs.TidiedLaws.{tidied-length}
+use Rattle.drawer.proofs.CaseLaws.{whole-put}
+use Rattle.drawer.proofs.FoundLaws.{found-room}
+use borrow.Author.Needs.{needs}
+use Rattle.drawer.proofs.loading.load.Statement.{statement}
+use Rattle.drawer.proofs.loading.load.Tie as tie
+use Rattle.drawer.proofs.loading.load.Reads as reads
+use Rattle.drawer.proofs.loading.load.Lts as lts
+use Rattle.drawer.proofs.check.is_drawer.Reads as is-drawer-reads
+use Rattle.drawer.proofs.find.link_in.Reads as link-in-reads
+use Rattle.records.proofs.tidied.Reads as tidied-reads
+use Rattle.words.proofs.put.Reads as put-reads
+use Rattle.words.proofs.word.Reads as word-reads
+
+is-drawer-requires : tie.Need-is-drawer-requires
+is-drawer-requires c κs = search needs
+
+returns : tie.Need-returns
+unfolding loadOn
+returns c = rw (← c .before .is-drawer .ensures, not-true (c .before .is-drawer .result) (c .if1 .taken))
+
+link-in-requires : tie.Need-link-in-requires
+link-in-requires c κs = sym (c .before .is-drawer .ensures) ∙ not-false (c .before .is-drawer .result) (c .if1 .left)
+
+word-requires : tie.Need-word-requires
+word-requires c κs = search needs
+
+returns-2 : tie.Need-returns-2
+unfolding loadOn
+returns-2 c = rw (← c .before .before .before .before .is-drawer .ensures, not-false (c .before .before .before .before .is-drawer .result) (c .before .before .before .if1 .left), ← c .before .before .link-in .ensures, ← c .before .word .ensures, c .if2 .taken)
+
+mul-tidied : tie.Need-mul-tidied
+mul-tidied c =
+    let a = c .before .before .before .before .before .before .args in
+    let s = a .drawer .now in
+    let right = sym (c .before .before .before .before .is-drawer .ensures) ∙ not-false (c .before .before .before .before .is-drawer .result) (c .before .before .before .if1 .left) in
+    let w = c .before .word in
+    let found = found-room s right (a .id) (w .result) (w .ensures ∙ ap (wordAt s) (c .before .before .link-in .ensures)) (c .if2 .left) in
+    omega (arith, found .1)
+
+add-tidied : tie.Need-add-tidied
+add-tidied c =
+    let a = c .before .before .before .before .before .before .args in
+    let s = a .drawer .now in
+    let right = sym (c .before .before .before .before .is-drawer .ensures) ∙ not-false (c .before .before .before .before .is-drawer .result) (c .before .before .before .if1 .left) in
+    let w = c .before .word in
+    let found = found-room s right (a .id) (w .result) (w .ensures ∙ ap (wordAt s) (c .before .before .link-in .ensures)) (c .if2 .left) in
+    omega (arith, found .1)
+
+tidied-requires : tie.Need-tidied-requires
+tidied-requires c κs =
+    let a = c .before .before .before .before .before .before .args in
+    let s = a .drawer .now in
+    let right = sym (c .before .before .before .before .is-drawer .ensures) ∙ not-false (c .before .before .before .before .is-drawer .result) (c .before .before .before .if1 .left) in
+    let w = c .before .word in
+    let found = found-room s right (a .id) (w .result) (w .ensures ∙ ap (wordAt s) (c .before .before .link-in .ensures)) (c .if2 .left) in
+    omega (arith, found .0, found .1)
+
+slice-aggregate-put : tie.Need-slice-aggregate-put
+slice-aggregate-put c = search needs
+
+put-requires : tie.Need-put-requires
+put-requires c κs = search needs
+
+returns-3 : tie.Need-returns-3
+unfolding loadOn
+returns-3 c =
+    let a = c .before .before .before .before .before .before .before .before .before .before .args in
+    let ws = c .before .before .before .tidied .result in
+    let long : length (a .state .now) ≡ 156 = search needs in
+    let many : length ws ≡ 39 = ap length (c .before .before .before .tidied .ensures .0) ∙ tidied-length _ _ in
+    rw (
+      ← c .before .before .before .before .before .before .before .before .is-drawer .ensures,
+      not-false (c .before .before .before .before .before .before .before .before .is-drawer .result) (c .before .before .before .before .before .before .before .if1 .left),
+      ← c .before .before .before .before .before .before .link-in .ensures,
+      ← c .before .before .before .before .before .word .ensures,
+      c .before .before .before .before .if2 .left,
+      c .put .ensures,
+      whole-put ws (a .state .now) (omega (arith, long, many)),
+      c .before .before .before .tidied .ensures .0,
+    )
+
+pub load-spec : {M : Type 1} → statement M
+load-spec =
+    tie.close
+    (tie.spec
+    is-drawer-requires
+    returns
+    link-in-requires
+    word-requires
+    returns-2
+    mul-tidied
+    add-tidied
+    tidied-requires
+    slice-aggregate-put
+    put-requires
+    returns-3)
