@@ -1,33 +1,29 @@
 -- What a drawer holds after a save of a new id.
 use mathlib.Core.Path.{_≡_, refl, sym, ap, _∙_, subst}
-use mathlib.Core.Bool.{Bool, true, false, cond, not}
+use mathlib.Core.Bool.{false, cond}
 use mathlib.Core.List.{List, [], _∷_, _++_}
-use Prim.Native.Nat.{ℕ, zero, suc, _+_, _*_, _%_, _<_, _≤_}
-use native.Mathlib.Nat.{zero-add}
+use Prim.Native.Nat.{ℕ, _+_, _*_, _%_, _<_}
 use native.Mathlib.Omega.{arith}
 use native.Mathlib.Decide.{ℕ-discrete}
-use lib.Dec.{eqb, ltb}
-use lib.ListN.{length, getD, length-append}
+use lib.Dec.{eqb}
+use lib.ListN.{length}
 use borrow.Author.Tests.{eq-eqb, ne-eqb}
-use Rattle.words.specs.Words.{wordAt, bytesOf, putAt}
+use Rattle.words.specs.Words.{wordAt, bytesOf}
 use Rattle.records.specs.Record.{isDamaged}
-use Rattle.records.proofs.TidiedLaws.{tidied-length, tidied-word, tidied-same, tidied-damaged, tidied-twice}
-use Rattle.drawer.specs.Chains.{times, flat}
-use Rattle.drawer.specs.Drawer.{idIn, hasId, noIdTwice, recordsOf, isDrawer}
+use Rattle.records.proofs.TidiedLaws.{tidied-same, tidied-twice}
+use Rattle.drawer.specs.Chains.{times}
+use Rattle.drawer.specs.Drawer.{idIn, hasId, recordsOf}
 use Rattle.drawer.specs.Search.{records, recordOf}
 use Rattle.drawer.specs.Order.{Ascends}
-use Rattle.drawer.specs.Calls.{width, stateIn, newIn, goneFrom}
-use Rattle.drawer.specs.Lists.{save, IsCall, Held, nothing, state, Event, saved, forgot, keptWords, lastSaved, isHeld, heldIds}
+use Rattle.drawer.specs.Calls.{width, stateIn, newIn}
+use Rattle.drawer.specs.Lists.{save, IsCall, state, Event, saved, keptWords, lastSaved, isHeld, heldIds}
 use Rattle.drawer.proofs.Links.{Links, linkAfter}
-use Rattle.drawer.proofs.OrderLaws.{up-same, up-insert, up-remove}
+use Rattle.drawer.proofs.OrderLaws.{up-same, up-insert}
 use Rattle.drawer.proofs.ChainLaws.{times-append, times-here}
-use Rattle.drawer.proofs.SpreadLaws.{flat-long, spread-long}
-use Rattle.drawer.proofs.SurgeryLaws.{chg, chg-here, chg-other, times-split, pos, alone}
-use Rattle.drawer.proofs.SeekLaws.{Stopped}
-use Rattle.drawer.proofs.DrawerLaws.{parts, head-low, search-stops}
-use Rattle.drawer.proofs.IdLaws.{has-same, twice-remove, right-of}
-use Rattle.drawer.proofs.ViewLaws.{View, view-walk, drawer-of}
-use Rattle.drawer.proofs.LookLaws.{has-not, not-has, found-at, absent-at, is-found, is-absent}
+use Rattle.drawer.proofs.SurgeryLaws.{chg, chg-here, chg-other, times-split, alone}
+use Rattle.drawer.proofs.DrawerLaws.{head-low}
+use Rattle.drawer.proofs.ViewLaws.{View}
+use Rattle.drawer.proofs.LookLaws.{absent-at, is-found}
 use Rattle.drawer.proofs.KeptLaws.{new-view, new-long, new-id, new-words, same-id, same-words}
 use Rattle.drawer.proofs.HeldLaws.{heldAt, heldIn, held-some, held-kept, Holds, chg2, pos-of}
 use Rattle.drawer.proofs.RewriteLaws.{kept-long, kept-small, kept-sound}

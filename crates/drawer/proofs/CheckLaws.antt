@@ -2,25 +2,22 @@
 use mathlib.Core.Path.{_≡_, refl, sym, ap, _∙_, subst}
 use mathlib.Core.Bool.{Bool, true, false, cond, not, _&&_, _||_}
 use mathlib.Core.List.{List, [], _∷_, _++_}
-use mathlib.Core.Logic.{_⊎_, inl, inr, ⊎-elim}
-use Prim.Native.Nat.{ℕ, zero, suc, _+_, _-_, _*_, _%_, _<_, _≤_}
+use Prim.Native.Nat.{ℕ, zero, suc, _+_, _*_, _%_, _<_, _≤_}
 use native.Mathlib.Nat.{not-suc-le-zero, add-zero}
 use native.Mathlib.Omega.{arith}
 use native.Mathlib.Decide.{ℕ-discrete}
 use lib.Dec.{eqb, ltb}
-use lib.ListN.{length, length-append, getD, set, length-set, replicate}
-use lib.Seq.{getD-set-same, getD-set-other}
-use borrow.Author.Tests.{eq-eqb, ne-eqb, eqb-true, eqb-false, ltb-true, ltb-false, lt-ltb}
-use Rattle.drawer.specs.Chains.{walk, times}
-use Rattle.drawer.proofs.Links.{Links, linkAfter}
-use Rattle.drawer.specs.Drawer.{idIn, chainOf, isSpread, hasId, noIdTwice, underHead, isState, areStates, isChain, areChains, isFilled}
-use Rattle.drawer.specs.Chains.{flat}
-use Rattle.drawer.specs.Tours.{suits, isPlaced, tourFrom, hasFrom, twiceFrom, amongFirst}
+use lib.ListN.{length, length-append}
+use borrow.Author.Tests.{eq-eqb, ne-eqb, eqb-true, eqb-false, ltb-true, lt-ltb}
+use Rattle.drawer.specs.Chains.{times}
+use Rattle.drawer.proofs.Links.{Links}
+use Rattle.drawer.specs.Drawer.{idIn, hasId, noIdTwice, underHead, isState, areStates}
+use Rattle.drawer.specs.Tours.{suits, isPlaced, tourFrom, hasFrom, twiceFrom}
 use Rattle.drawer.specs.Search.{isRecord}
 use Rattle.drawer.specs.declared.tour.Tour.{Tour}
-use Rattle.drawer.proofs.ChainLaws.{links-walk, links-same, times-append, times-here, times-more}
-use Rattle.drawer.proofs.SpreadLaws.{and-left, and-right, and-both, flat-long, flat-times, Spread, spread-of, spread-long, spread-walk, is-spread, sumTo, sum-all, sum-le-each}
-use Rattle.drawer.proofs.SurgeryLaws.{pos, below, alone}
+use Rattle.drawer.proofs.ChainLaws.{links-same, times-here, times-more}
+use Rattle.drawer.proofs.SpreadLaws.{and-left, and-right, and-both}
+use Rattle.drawer.proofs.SurgeryLaws.{below}
 
 pub false-of : (b : Bool) → (b ≡ true → ⊥) → b ≡ false
 false-of true no-way = absurd (no-way refl)

@@ -1,19 +1,19 @@
 -- What a drawer is, in the parts that the laws use; and the record of an id.
-use mathlib.Core.Path.{_≡_, refl, sym, ap, _∙_, subst}
-use mathlib.Core.Bool.{Bool, true, false, cond, not, _&&_, _||_}
-use mathlib.Core.List.{List, [], _∷_, _++_}
-use Prim.Native.Nat.{ℕ, zero, suc, _+_, _-_, _*_, _/_, _%_, _<_, _≤_}
+use mathlib.Core.Path.{_≡_, sym, ap, subst}
+use mathlib.Core.Bool.{Bool, true, _&&_}
+use mathlib.Core.List.{List, [], _∷_}
+use Prim.Native.Nat.{ℕ, _+_, _*_, _%_, _<_, _≤_}
 use native.Mathlib.Omega.{arith}
-use lib.Dec.{eqb, ltb}
+use lib.Dec.{eqb}
 use lib.ListN.{length}
-use borrow.Author.Tests.{eqb-true, eq-eqb}
+use borrow.Author.Tests.{eqb-true}
 use Rattle.words.specs.Words.{wordAt}
 use Rattle.drawer.specs.Chains.{walk, times}
 use Rattle.drawer.proofs.Links.{Links, linkAfter}
-use Rattle.drawer.specs.Drawer.{idIn, chainOf, isWhole, isFilled, isDrawer}
-use Rattle.drawer.specs.Search.{seek, linkOf, placeOf, records, recordOf}
+use Rattle.drawer.specs.Drawer.{idIn, isWhole, isFilled, isDrawer}
+use Rattle.drawer.specs.Search.{seek, records, recordOf}
 use Rattle.drawer.proofs.ChainLaws.{times-append, times-here, times-more}
-use Rattle.drawer.proofs.SpreadLaws.{and-left, and-right, and-both}
+use Rattle.drawer.proofs.SpreadLaws.{and-left, and-right}
 use Rattle.drawer.proofs.CheckLaws.{Below, placed-below}
 use Rattle.drawer.proofs.PassedLaws.{Fine, filled-fine, of-below}
 use Rattle.drawer.proofs.SeekLaws.{Stopped, stopped, stopped-at}

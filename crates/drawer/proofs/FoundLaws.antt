@@ -12,8 +12,7 @@ use Rattle.drawer.specs.Drawer.{isDrawer}
 use Rattle.drawer.specs.Search.{isStop, seek, records, recordOf}
 use Rattle.drawer.specs.Tours.{Sized}
 use Rattle.drawer.specs.Calls.{width}
-use Rattle.drawer.proofs.WidthLaws.{next-record}
-use Rattle.drawer.proofs.DrawerLaws.{Parts, parts, head-low, record-below, record-room, free-below, seek-room}
+use Rattle.drawer.proofs.DrawerLaws.{parts, head-low, record-below, record-room, free-below, seek-room}
 
 module _ (s : List ℕ) (e : isDrawer width s ≡ true) where
   pub drawer-sized : (n : ℕ) → n ≡ records width s → Sized width n s

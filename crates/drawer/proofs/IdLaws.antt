@@ -1,18 +1,17 @@
 -- The tests of a chain's ids, heads and states: where the records' words stay, where a record is put in, and where one is taken out.
-use mathlib.Core.Path.{_≡_, refl, sym, ap, _∙_, subst}
-use mathlib.Core.Bool.{Bool, true, false, cond, not, _&&_, _||_}
+use mathlib.Core.Path.{_≡_, refl, sym, ap, _∙_}
+use mathlib.Core.Bool.{Bool, true, false, not, _&&_, _||_}
 use mathlib.Core.List.{List, [], _∷_, _++_}
-use Prim.Native.Nat.{ℕ, zero, suc, _+_, _-_, _*_, _/_, _%_, _<_, _≤_}
+use Prim.Native.Nat.{ℕ, _+_, _*_, _/_, _%_, _<_}
 use native.Mathlib.Omega.{arith}
-use native.Mathlib.Decide.{ℕ-discrete}
-use lib.Dec.{eqb, ltb}
-use borrow.Author.Tests.{eq-eqb, ne-eqb, eqb-true, eqb-false}
+use lib.Dec.{eqb}
+use borrow.Author.Tests.{eq-eqb, ne-eqb, eqb-false}
 use Rattle.drawer.specs.Chains.{times}
 use Rattle.drawer.specs.Drawer.{idIn, hasId, noIdTwice, underHead, isState, areStates, isChain}
 use Rattle.records.proofs.TidiedLaws.{damaged-same}
 use Rattle.drawer.proofs.ChainLaws.{times-here, times-more}
 use Rattle.drawer.proofs.SpreadLaws.{and-left, and-right, and-both}
-use Rattle.drawer.proofs.CheckLaws.{false-of, clash}
+use Rattle.drawer.proofs.CheckLaws.{clash}
 
 -- ---- the words of a record
 pub id-same : (width : ℕ) (w v : ℕ → ℕ) (r : ℕ) → v (width * r + 1) ≡ w (width * r + 1) → v (width * r + 2) ≡ w (width * r + 2) → idIn width v r ≡ idIn width w r

@@ -1,25 +1,25 @@
 -- A drawer stays a drawer: a new record put in, one rewritten, one forgotten. c are the drawer's chains as lists of records.
 use mathlib.Core.Path.{_≡_, refl, sym, ap, _∙_, subst}
-use mathlib.Core.Bool.{Bool, true, false, cond, not, _&&_, _||_}
+use mathlib.Core.Bool.{true, false, cond, not}
 use mathlib.Core.List.{List, [], _∷_, _++_}
 use mathlib.Core.Logic.{_⊎_, inl, inr, ⊎-elim}
-use Prim.Native.Nat.{ℕ, zero, suc, _+_, _-_, _*_, _/_, _%_, _<_, _≤_}
+use Prim.Native.Nat.{ℕ, suc, _+_, _*_, _%_, _<_, _≤_}
 use native.Mathlib.Nat.{zero-add, add-zero}
 use native.Mathlib.Omega.{arith}
 use native.Mathlib.Decide.{ℕ-discrete}
-use lib.Dec.{eqb, ltb, leb}
+use lib.Dec.{eqb}
 use lib.ListN.{length, getD}
-use borrow.Author.Tests.{eq-eqb, lt-ltb, le-leb}
+use borrow.Author.Tests.{eq-eqb}
 use Rattle.words.specs.Words.{wordAt, putAt}
-use Rattle.drawer.specs.Chains.{walk, times}
+use Rattle.drawer.specs.Chains.{times}
 use Rattle.drawer.proofs.Links.{Links, linkAfter}
-use Rattle.drawer.specs.Drawer.{idIn, chainOf, hasId, isState, areStates, isChain, areChains, recordsOf}
+use Rattle.drawer.specs.Drawer.{idIn, hasId, isState, areStates, isChain, recordsOf}
 use Rattle.drawer.specs.Search.{records}
 use Rattle.records.specs.Record.{isDamaged}
 use Rattle.records.proofs.TidiedLaws.{damaged-same}
 use Rattle.drawer.specs.Calls.{width, newIn, goneFrom}
-use Rattle.drawer.proofs.ChainLaws.{times-append, times-here, times-more, link-names, link-ends}
-use Rattle.drawer.proofs.SpreadLaws.{and-left, and-right, and-both, Spread, spread-of, spread-walk, is-spread}
+use Rattle.drawer.proofs.ChainLaws.{times-append, times-here, times-more}
+use Rattle.drawer.proofs.SpreadLaws.{and-left, and-right, and-both, Spread}
 use Rattle.drawer.proofs.SurgeryLaws.{chg, chg-here, chg-other, times-mid, times-split, pos, below, single, alone, saved, forgotten, kept}
 use Rattle.drawer.proofs.ViewLaws.{View, link-form, link-value}
 use Rattle.drawer.proofs.NewLaws.{lt-or, new-length, new-link, new-next, new-low, new-high, new-state, new-free, new-other, over-length, over-state, over-other, gone-length, gone-free, gone-next, gone-link, gone-other}

@@ -1,20 +1,20 @@
 -- Every call on a drawer does what its history asks, and so does every list of calls on a fresh one.
 use mathlib.Core.Path.{_≡_, refl, sym, ap, _∙_, subst}
-use mathlib.Core.Bool.{Bool, true, false, cond, not}
+use mathlib.Core.Bool.{Bool, true, false, not}
 use mathlib.Core.List.{List, [], _∷_, _++_}
-use Prim.Native.Nat.{ℕ, zero, suc, _+_, _*_, _%_, _<_, _≤_}
+use Prim.Native.Nat.{ℕ, zero, suc, _+_, _%_, _<_, _≤_}
 use native.Mathlib.Omega.{arith}
 use native.Mathlib.Decide.{ℕ-discrete}
-use lib.Dec.{eqb, ltb}
-use lib.ListN.{length, getD}
+use lib.Dec.{eqb}
+use lib.ListN.{length}
 use borrow.Author.Tests.{eq-eqb, ne-eqb, ltb-true, ltb-false}
-use Rattle.words.specs.Words.{wordAt, bytesOf, putAt}
+use Rattle.words.specs.Words.{wordAt, bytesOf}
 use Rattle.records.specs.Record.{isDamaged}
 use Rattle.drawer.specs.Chains.{times}
-use Rattle.drawer.specs.Drawer.{idIn, isWhole, isDrawer}
-use Rattle.drawer.specs.Search.{isStop, linkOf, placeOf, records, recordOf}
+use Rattle.drawer.specs.Drawer.{idIn, isWhole}
+use Rattle.drawer.specs.Search.{isStop, records, recordOf}
 use Rattle.drawer.specs.Order.{Ascends}
-use Rattle.drawer.specs.Calls.{width, stateIn, newIn, putOn, goneFrom, freshTo, layOn, loadOn, saveOn, forgetOn, Left}
+use Rattle.drawer.specs.Calls.{width, stateIn, newIn, goneFrom, freshTo, layOn, Left}
 use Rattle.drawer.specs.Lists.{Call, save, load, forget, IsCall, AreCalls, state, Answer, answerOn, leftOn, answersOn, Event, keptWords, lastSaved, isHeld, heldIds, given, plain, answerBy, eventsBy, answersBy, AllDrawerLists, AllAscend, leftAfter}
 use Rattle.drawer.proofs.OrderLaws.{up-rest}
 use Rattle.drawer.proofs.ChainLaws.{times-append}

@@ -1,23 +1,21 @@
 -- The record of an id: the one record of its chain that holds the id, or none.
 use mathlib.Core.Path.{_≡_, refl, sym, ap, _∙_, subst}
-use mathlib.Core.Bool.{Bool, true, false, cond, not, _&&_, _||_}
-use mathlib.Core.List.{List, [], _∷_, _++_}
-use Prim.Native.Nat.{ℕ, zero, suc, _+_, _-_, _*_, _/_, _%_, _<_, _≤_}
+use mathlib.Core.Bool.{true, false, not}
+use mathlib.Core.List.{List, [], _∷_}
+use Prim.Native.Nat.{ℕ, _%_, _<_}
 use native.Mathlib.Omega.{arith}
 use native.Mathlib.Decide.{ℕ-discrete}
-use lib.Dec.{eqb, ltb}
-use lib.ListN.{length}
-use borrow.Author.Tests.{eq-eqb, ne-eqb, eqb-true, eqb-false}
+use lib.Dec.{eqb}
+use borrow.Author.Tests.{ne-eqb, eqb-true, eqb-false}
 use Rattle.words.specs.Words.{wordAt}
 use Rattle.drawer.specs.Chains.{walk, times}
-use Rattle.drawer.proofs.Links.{Links, linkAfter}
-use Rattle.drawer.specs.Drawer.{idIn, hasId, noIdTwice, isChain, isDrawer}
-use Rattle.drawer.specs.Search.{isStop, seek, records, recordOf}
+use Rattle.drawer.proofs.Links.{Links}
+use Rattle.drawer.specs.Drawer.{idIn, hasId, noIdTwice}
+use Rattle.drawer.specs.Search.{isStop, records, recordOf}
 use Rattle.drawer.proofs.ChainLaws.{times-here, times-more}
-use Rattle.drawer.proofs.SpreadLaws.{and-left, and-right, Spread}
-use Rattle.drawer.proofs.CheckLaws.{clash}
+use Rattle.drawer.proofs.SpreadLaws.{and-left, and-right}
 use Rattle.drawer.proofs.SeekLaws.{times-nil, times-other, Stopped, stopped-at, stopped-none}
-use Rattle.drawer.proofs.DrawerLaws.{Parts, parts, head-low, search-stops}
+use Rattle.drawer.proofs.DrawerLaws.{parts, head-low, search-stops}
 use Rattle.drawer.proofs.IdLaws.{right-of, or-left, or-tail, or-false, of-not}
 use Rattle.drawer.proofs.ViewLaws.{View, view-walk, drawer-of}
 

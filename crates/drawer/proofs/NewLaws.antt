@@ -1,12 +1,12 @@
 -- The words of the buffer after a new record was put in, after a rewriting, and after a forgetting.
-use mathlib.Core.Path.{_≡_, refl, sym, ap, _∙_, subst}
-use mathlib.Core.List.{List, [], _∷_, _++_}
+use mathlib.Core.Path.{_≡_, sym, ap, _∙_}
+use mathlib.Core.List.{List, [], _∷_}
 use mathlib.Core.Logic.{_⊎_, inl, inr, ⊎-elim}
-use Prim.Native.Nat.{ℕ, zero, suc, _+_, _-_, _*_, _/_, _%_, _<_, _≤_}
+use Prim.Native.Nat.{ℕ, zero, suc, _+_, _*_, _/_, _%_, _<_, _≤_}
 use native.Mathlib.Nat.{add-zero}
 use native.Mathlib.Omega.{arith}
-use lib.ListN.{length, getD, replicate}
-use Rattle.words.specs.Words.{wordAt, bytesOf, putAt}
+use lib.ListN.{length, getD}
+use Rattle.words.specs.Words.{wordAt, putAt}
 use Rattle.drawer.specs.Calls.{width, newIn, goneFrom, freeWords}
 use Rattle.words.proofs.KeptLaws.{put-length, kept-word}
 use Rattle.words.proofs.ReadLaws.{written-word}

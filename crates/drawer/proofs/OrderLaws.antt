@@ -1,9 +1,9 @@
 -- Ids that ascend along a chain: where they stay, where a record is put in, and where one is taken out.
-use mathlib.Core.Path.{_≡_, refl, sym, ap, _∙_, subst}
-use mathlib.Core.Bool.{Bool, true, false, cond, _&&_, _||_}
-use mathlib.Core.Logic.{_⊎_, inl, inr, ⊎-elim}
+use mathlib.Core.Path.{_≡_, refl, sym, subst}
+use mathlib.Core.Bool.{Bool, true, false, cond, _||_}
+use mathlib.Core.Logic.{_⊎_, inr, ⊎-elim}
 use mathlib.Core.List.{List, [], _∷_, _++_}
-use Prim.Native.Nat.{ℕ, zero, suc, _+_, _*_, _<_, _≤_}
+use Prim.Native.Nat.{ℕ, _<_}
 use native.Mathlib.Omega.{arith}
 use native.Mathlib.Decide.{ℕ-discrete}
 use lib.Dec.{eqb, ltb}
@@ -11,7 +11,7 @@ use borrow.Author.Tests.{eq-eqb, ne-eqb, lt-ltb}
 use Rattle.drawer.specs.Chains.{times}
 use Rattle.drawer.specs.Drawer.{idIn}
 use Rattle.drawer.specs.Order.{Ascends}
-use Rattle.drawer.proofs.ChainLaws.{times-append, times-here, times-more}
+use Rattle.drawer.proofs.ChainLaws.{times-here, times-more}
 use Rattle.drawer.proofs.SpreadLaws.{and-both}
 use Rattle.drawer.proofs.SurgeryLaws.{times-split}
 use Rattle.drawer.proofs.CheckLaws.{ascends}

@@ -2,24 +2,24 @@
 use mathlib.Core.Path.{_≡_, refl, sym, ap, _∙_, subst}
 use mathlib.Core.Bool.{Bool, true, false, cond, not, _&&_, _||_}
 use mathlib.Core.List.{List, [], _∷_, _++_}
-use Prim.Native.Nat.{ℕ, zero, suc, _+_, _-_, _*_, _%_, _<_, _≤_}
+use Prim.Native.Nat.{ℕ, zero, suc, _+_, _-_, _*_, _<_, _≤_}
 use native.Mathlib.Nat.{not-suc-le-zero, zero-add}
 use native.Mathlib.Numerals.{add-one}
 use native.Mathlib.Omega.{arith}
 use native.Mathlib.Decide.{ℕ-discrete}
-use lib.Dec.{eqb, ltb}
+use lib.Dec.{eqb}
 use lib.ListN.{length, length-append, getD, set, length-set, replicate}
 use lib.Seq.{getD-set-same, getD-set-other}
-use borrow.Author.Tests.{eq-eqb, ne-eqb, eqb-true, eqb-false}
+use borrow.Author.Tests.{eq-eqb, ne-eqb, eqb-false}
 use Rattle.drawer.specs.Chains.{walk, times}
 use Rattle.drawer.proofs.Links.{Links}
 use Rattle.drawer.specs.Chains.{flat}
 use Rattle.drawer.specs.Drawer.{chainOf, isSpread, noIdTwice, underHead, areStates, isChain, areChains, isFilled}
-use Rattle.drawer.specs.Tours.{tourFrom, twiceFrom, amongFirst, isMet, isSingle}
+use Rattle.drawer.specs.Tours.{tourFrom, amongFirst, isMet, isSingle}
 use Rattle.drawer.specs.declared.tour.Tour.{Tour}
 use Rattle.drawer.proofs.ChainLaws.{links-walk, times-append, times-here, times-more}
-use Rattle.drawer.proofs.SpreadLaws.{and-left, and-right, and-both, flat-long, flat-times, Spread, spread-of, spread-long, is-spread, sumTo, sum-all, sum-le-each}
-use Rattle.drawer.proofs.SurgeryLaws.{pos, below, alone}
+use Rattle.drawer.proofs.SpreadLaws.{and-left, and-right, and-both, flat-long, Spread, spread-of, spread-long, is-spread, sum-all, sum-le-each}
+use Rattle.drawer.proofs.SurgeryLaws.{below, alone}
 use Rattle.drawer.proofs.TourLaws.{among-some, among-found}
 use Rattle.drawer.proofs.CheckLaws.{false-of, clash, lastOf, last-member, links-once, meet-last, made, ascends, Placed, tour-of, tour-found, asc-twice, Below, twice-of, placed-below, placed-chain, chain-placed, free-placed}
 

@@ -1,33 +1,26 @@
 -- What a drawer holds after a save of an id that is there.
-use mathlib.Core.Path.{_≡_, refl, sym, ap, _∙_, subst}
-use mathlib.Core.Bool.{Bool, true, false, cond, not}
-use mathlib.Core.List.{List, [], _∷_, _++_}
-use Prim.Native.Nat.{ℕ, zero, suc, _+_, _*_, _%_, _<_, _≤_}
+use mathlib.Core.Path.{_≡_, sym, ap, _∙_}
+use mathlib.Core.Bool.{true, false, cond}
+use mathlib.Core.List.{List, _∷_}
+use Prim.Native.Nat.{ℕ, _+_, _*_, _%_, _<_}
 use native.Mathlib.Nat.{zero-add}
 use native.Mathlib.Omega.{arith}
 use native.Mathlib.Decide.{ℕ-discrete}
-use lib.Dec.{eqb, ltb}
-use lib.ListN.{length, getD, length-append}
+use lib.Dec.{eqb}
+use lib.ListN.{length, getD}
 use borrow.Author.Tests.{eq-eqb, ne-eqb}
 use Rattle.words.specs.Words.{wordAt, bytesOf, putAt}
 use Rattle.records.specs.Record.{isDamaged}
 use Rattle.records.proofs.TidiedLaws.{tidied-length, tidied-word, tidied-same, tidied-damaged, tidied-twice}
-use Rattle.drawer.specs.Chains.{times, flat}
-use Rattle.drawer.specs.Drawer.{idIn, hasId, noIdTwice, recordsOf, isDrawer}
+use Rattle.drawer.specs.Chains.{times}
+use Rattle.drawer.specs.Drawer.{idIn}
 use Rattle.drawer.specs.Search.{records, recordOf}
-use Rattle.drawer.specs.Order.{Ascends}
-use Rattle.drawer.specs.Calls.{width, stateIn, newIn, goneFrom}
-use Rattle.drawer.specs.Lists.{save, IsCall, Held, nothing, state, Event, saved, forgot, keptWords, lastSaved, isHeld, heldIds}
-use Rattle.drawer.proofs.Links.{Links, linkAfter}
-use Rattle.drawer.proofs.OrderLaws.{up-same, up-insert, up-remove}
-use Rattle.drawer.proofs.ChainLaws.{times-append, times-here}
-use Rattle.drawer.proofs.SpreadLaws.{flat-long, spread-long}
-use Rattle.drawer.proofs.SurgeryLaws.{chg, chg-here, chg-other, times-split, pos, alone}
-use Rattle.drawer.proofs.SeekLaws.{Stopped}
-use Rattle.drawer.proofs.DrawerLaws.{parts, head-low, search-stops}
-use Rattle.drawer.proofs.IdLaws.{has-same, twice-remove, right-of}
-use Rattle.drawer.proofs.ViewLaws.{View, view-walk, drawer-of}
-use Rattle.drawer.proofs.LookLaws.{has-not, not-has, found-at, absent-at, is-found, is-absent}
+use Rattle.drawer.specs.Calls.{width, stateIn}
+use Rattle.drawer.specs.Lists.{save, IsCall, state, Event, saved, keptWords, lastSaved, isHeld, heldIds}
+use Rattle.drawer.proofs.OrderLaws.{up-same}
+use Rattle.drawer.proofs.DrawerLaws.{head-low}
+use Rattle.drawer.proofs.ViewLaws.{View}
+use Rattle.drawer.proofs.LookLaws.{found-at, is-found}
 use Rattle.drawer.proofs.KeptLaws.{over-view, over-id, over-records, over-here, over-words}
 use Rattle.drawer.proofs.HeldLaws.{heldAt, heldIn, held-some, held-kept, Holds}
 

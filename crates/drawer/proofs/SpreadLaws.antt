@@ -1,17 +1,17 @@
 -- The 17 chains together are the records 1 to n - 1, each once: as a test, and as what the laws use; and what a few writes of links do to them.
-use mathlib.Core.Path.{_≡_, refl, sym, ap, _∙_, subst}
+use mathlib.Core.Path.{_≡_, refl, sym, ap, _∙_}
 use mathlib.Core.Bool.{Bool, true, false, cond, _&&_}
 use mathlib.Core.List.{List, [], _∷_, _++_}
 use mathlib.Core.Logic.{_⊎_, inl, inr, ⊎-elim}
-use Prim.Native.Nat.{ℕ, zero, suc, _+_, _-_, _*_, _<_, _≤_}
+use Prim.Native.Nat.{ℕ, zero, suc, _+_, _-_, _<_, _≤_}
 use native.Mathlib.Nat.{not-suc-le-zero}
 use native.Mathlib.Omega.{arith}
 use native.Mathlib.Decide.{ℕ-discrete}
 use lib.Dec.{eqb}
 use lib.ListN.{length, length-append}
-use borrow.Author.Tests.{eq-eqb, ne-eqb, eqb-true, eqb-false}
+use borrow.Author.Tests.{eq-eqb, ne-eqb, eqb-true}
 use Rattle.drawer.specs.Chains.{walk, times}
-use Rattle.drawer.proofs.Links.{Links, linkAfter}
+use Rattle.drawer.proofs.Links.{Links}
 use Rattle.drawer.specs.Chains.{flat}
 use Rattle.drawer.specs.Drawer.{eachOnce, chainOf, isSpread}
 use Rattle.drawer.proofs.ChainLaws.{links-walk, walk-links, times-append, times-here, times-more}

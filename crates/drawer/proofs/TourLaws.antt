@@ -1,8 +1,8 @@
 -- A turn of each loop that goes along a chain.
-use mathlib.Core.Path.{_≡_, refl, sym, ap, _∙_, subst}
-use mathlib.Core.Bool.{Bool, true, false, cond, not, _&&_, _||_}
-use mathlib.Core.List.{List, [], _∷_, _++_}
-use Prim.Native.Nat.{ℕ, zero, suc, _+_, _-_, _*_, _<_, _≤_}
+use mathlib.Core.Path.{_≡_, refl, subst}
+use mathlib.Core.Bool.{Bool, true, false, cond, _&&_, _||_}
+use mathlib.Core.List.{List}
+use Prim.Native.Nat.{ℕ, zero, suc, _+_, _*_, _<_}
 use native.Mathlib.Omega.{arith}
 use native.Mathlib.Nat.{not-suc-le-zero}
 use native.Mathlib.Numerals.{add-one}
@@ -15,7 +15,6 @@ use Rattle.drawer.proofs.CheckLaws.{clash}
 use Rattle.drawer.specs.Drawer.{idIn}
 use Rattle.drawer.specs.Tours.{isPlaced, tourFrom, hasFrom, twiceFrom, amongFirst}
 use Rattle.drawer.specs.Search.{isRecord}
-use Rattle.drawer.specs.declared.tour.Tour.{Tour}
 
 module _ (width : ℕ) (w : ℕ → ℕ) (n k : ℕ) where
   pub tour-end : (m r count last prev : ℕ) (up : Bool) → 0 < m → eqb r 0 ≡ true

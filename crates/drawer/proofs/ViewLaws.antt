@@ -1,24 +1,22 @@
 -- A drawer and its chains as lists of records c, and the links in it.
-use mathlib.Core.Path.{_≡_, refl, sym, ap, _∙_, subst}
-use mathlib.Core.Bool.{Bool, true, false, cond, not, _&&_, _||_}
+use mathlib.Core.Path.{_≡_, refl, sym, subst}
+use mathlib.Core.Bool.{true, _&&_}
 use mathlib.Core.List.{List, [], _∷_, _++_}
 use mathlib.Core.Logic.{_⊎_, inl, inr, ⊎-elim}
-use Prim.Native.Nat.{ℕ, zero, suc, _+_, _-_, _*_, _/_, _%_, _<_, _≤_}
-use native.Mathlib.Nat.{zero-add, add-zero}
+use Prim.Native.Nat.{ℕ, _*_, _<_, _≤_}
 use native.Mathlib.Omega.{arith}
-use native.Mathlib.Decide.{ℕ-discrete}
 use lib.Dec.{eqb, ltb, leb}
-use lib.ListN.{length, getD}
+use lib.ListN.{length}
 use borrow.Author.Tests.{eq-eqb, lt-ltb, le-leb}
-use Rattle.words.specs.Words.{wordAt, putAt}
+use Rattle.words.specs.Words.{wordAt}
 use Rattle.drawer.specs.Chains.{walk, times}
 use Rattle.drawer.proofs.Links.{Links, linkAfter}
-use Rattle.drawer.specs.Drawer.{idIn, chainOf, hasId, isState, areStates, isChain, areChains, isSpread, isFilled, recordsOf, isWhole, isDrawer}
+use Rattle.drawer.specs.Drawer.{chainOf, isChain, areChains, isSpread, isFilled, recordsOf, isWhole, isDrawer}
 use Rattle.drawer.specs.Search.{records}
-use Rattle.drawer.proofs.ChainLaws.{times-append, times-here, times-more, link-names, link-ends}
+use Rattle.drawer.proofs.ChainLaws.{times-here, times-more}
 use Rattle.drawer.proofs.SpreadLaws.{and-left, and-right, and-both, Spread, spread-of, spread-walk, is-spread}
 use Rattle.drawer.proofs.PassedLaws.{at-chains, chains-at}
-use Rattle.drawer.proofs.DrawerLaws.{Parts, parts}
+use Rattle.drawer.proofs.DrawerLaws.{parts}
 
 pub record View (width : ℕ) (s : List ℕ) (c : ℕ → List ℕ) : Type 0 where
   pub size : length s ≡ 4 * (width * records width s)

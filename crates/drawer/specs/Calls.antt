@@ -7,7 +7,7 @@ use lib.ListN.{length, replicate}
 use Rattle.words.specs.Words.{wordAt, bytesOf, putAt}
 use Rattle.records.specs.Record.{isDamaged}
 use Rattle.records.specs.Tidied.{tidied}
-use Rattle.drawer.specs.Drawer.{recordsOf, isWhole, isDrawer}
+use Rattle.drawer.specs.Drawer.{isWhole, isDrawer}
 use Rattle.drawer.specs.Search.{records, recordOf, linkOf, placeOf}
 
 -- "Records have equal length": words in a record, its next index, its id and a state's record

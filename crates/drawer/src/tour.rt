@@ -1,7 +1,7 @@
 // The check's way along a chain. A record has width words.
 ghost use mathlib.Core.Path.{_≡_};
 ghost use mathlib.Core.Bool.{true};
-ghost use Prim.Native.Nat.{_<_, _≤_};
+ghost use Prim.Native.Nat.{_<_};
 ghost use Rattle.words.specs.Words.{wordAt};
 ghost use Rattle.drawer.specs.Drawer.{idIn};
 ghost use Rattle.drawer.specs.Search.{isRecord};

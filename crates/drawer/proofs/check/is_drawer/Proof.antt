@@ -1,4 +1,4 @@
-use mathlib.Core.Path.{_≡_, sym, _∙_, subst}
+use mathlib.Core.Path.{sym, _∙_, subst}
 use Prim.Native.Nat.{ℕ, _*_, _<_}
 use native.Mathlib.Omega.{arith}
 use lib.Dec.{eqb}
@@ -10,12 +10,6 @@ use Rattle.drawer.proofs.SizeLaws.{whole-parts}
 use borrow.Author.Needs.{needs}
 use Rattle.drawer.proofs.check.is_drawer.Statement.{statement}
 use Rattle.drawer.proofs.check.is_drawer.Tie as tie
-use Rattle.drawer.proofs.check.is_drawer.Reads as reads
-use Rattle.drawer.proofs.check.is_drawer.Lts as lts
-use Rattle.drawer.proofs.check.is_filled.Reads as is-filled-reads
-use Rattle.drawer.proofs.check.is_whole.Reads as is-whole-reads
-use Rattle.drawer.proofs.check.records_of.Reads as records-of-reads
-use Rattle.words.proofs.word.Reads as word-reads
 
 is-whole-requires : tie.Need-is-whole-requires
 is-whole-requires c κs = search needs

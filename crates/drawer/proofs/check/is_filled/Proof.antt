@@ -1,6 +1,5 @@
-use mathlib.Core.Path.{_≡_, refl, sym, ap, _∙_, subst}
-use mathlib.Core.Bool.{true, false}
-use Prim.Native.Nat.{ℕ, _<_, _≤_, _-_, _+_, _*_}
+use mathlib.Core.Path.{_≡_, sym, _∙_, subst}
+use Prim.Native.Nat.{ℕ, _≤_, _-_, _*_}
 use native.Mathlib.Omega.{arith}
 use borrow.Author.Needs.{needs}
 use borrow.Author.Tests.{not-true, not-false}
@@ -8,11 +7,6 @@ use Rattle.words.specs.Words.{wordAt}
 use Rattle.drawer.proofs.PassedLaws.{Passed, toured, refused-tour, refused-met, refused-single, passed-none, passed-next, passed-all, toured-count}
 use Rattle.drawer.proofs.check.is_filled.Statement.{statement}
 use Rattle.drawer.proofs.check.is_filled.Tie as tie
-use Rattle.drawer.proofs.check.is_filled.Reads as reads
-use Rattle.drawer.proofs.check.is_filled.Lts as lts
-use Rattle.drawer.proofs.check.is_met.Reads as is-met-reads
-use Rattle.drawer.proofs.check.is_single.Reads as is-single-reads
-use Rattle.drawer.proofs.tour.go_along.Reads as go-along-reads
 
 abbrev Inv-loop : tie.InvT-loop
 Inv-loop s width n lasts₀ total₀ k₀ lasts total k = (k ≤ 17) × (total ≤ 65536 * k) × Passed width (wordAt s) n k lasts total

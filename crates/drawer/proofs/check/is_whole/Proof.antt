@@ -1,4 +1,4 @@
-use mathlib.Core.Path.{_≡_, sym, subst}
+use mathlib.Core.Path.{sym, subst}
 use Prim.Native.Nat.{ℕ, _*_, _≤_}
 use native.Mathlib.Omega.{arith}
 use Rattle.drawer.specs.Drawer.{isWhole}
@@ -6,9 +6,6 @@ use Rattle.drawer.proofs.WidthLaws.{records-fit}
 use borrow.Author.Needs.{needs}
 use Rattle.drawer.proofs.check.is_whole.Statement.{statement}
 use Rattle.drawer.proofs.check.is_whole.Tie as tie
-use Rattle.drawer.proofs.check.is_whole.Reads as reads
-use Rattle.drawer.proofs.check.is_whole.Lts as lts
-use Rattle.drawer.proofs.check.records_of.Reads as records-of-reads
 
 records-of-requires : tie.Need-records-of-requires
 records-of-requires c κs = search needs

@@ -1,7 +1,5 @@
 use Rattle.drawer.proofs.find.is_stop.Statement.{statement}
 use Rattle.drawer.proofs.find.is_stop.Tie as tie
-use Rattle.drawer.proofs.find.is_stop.Reads as reads
-use Rattle.drawer.proofs.find.is_stop.Lts as lts
 
 returns : tie.Need-returns
 returns c = rw (c .if1 .taken)

@@ -1,15 +1,10 @@
-use mathlib.Core.Path.{_≡_, refl, sym, ap, _∙_}
 use native.Mathlib.Omega.{arith}
 use Rattle.drawer.proofs.FoundLaws.{drawer-sized}
 use Rattle.drawer.specs.Calls.{width}
-use Rattle.drawer.proofs.DrawerLaws.{Parts, parts}
+use Rattle.drawer.proofs.DrawerLaws.{parts}
 use borrow.Author.Needs.{needs}
 use Rattle.drawer.proofs.find.link_in.Statement.{statement}
 use Rattle.drawer.proofs.find.link_in.Tie as tie
-use Rattle.drawer.proofs.find.link_in.Reads as reads
-use Rattle.drawer.proofs.find.link_in.Lts as lts
-use Rattle.drawer.proofs.check.records_of.Reads as records-of-reads
-use Rattle.drawer.proofs.find.link_to.Reads as link-to-reads
 
 records-of-requires : tie.Need-records-of-requires
 records-of-requires c κs = search needs

@@ -1,6 +1,6 @@
 use borrow.Author.Needs.{needs}
-use mathlib.Core.Path.{_≡_, refl, sym, ap, _∙_}
-use Prim.Native.Nat.{ℕ, _<_, _-_, _+_, _*_, _%_}
+use mathlib.Core.Path.{_≡_, refl, sym, _∙_}
+use Prim.Native.Nat.{_-_, _%_}
 use native.Mathlib.Omega.{arith}
 use borrow.Author.Tests.{not-true, not-false}
 use Rattle.words.specs.Words.{wordAt}
@@ -10,12 +10,6 @@ use Rattle.drawer.proofs.TourLaws.{record-below}
 use Rattle.drawer.proofs.SeekLaws.{seek-off, seek-stop, seek-next, seek-last}
 use Rattle.drawer.proofs.find.link_to.Statement.{statement}
 use Rattle.drawer.proofs.find.link_to.Tie as tie
-use Rattle.drawer.proofs.find.link_to.Reads as reads
-use Rattle.drawer.proofs.find.link_to.Lts as lts
-use Rattle.drawer.proofs.find.is_stop.Reads as is-stop-reads
-use Rattle.drawer.proofs.tour.id_in.Reads as id-in-reads
-use Rattle.drawer.proofs.tour.is_record.Reads as is-record-reads
-use Rattle.words.proofs.word.Reads as word-reads
 
 abbrev Inv-loop : tie.InvT-loop
 Inv-loop s width n larger x p₀ left₀ p left = seek width (isStop width (wordAt s) larger x) (wordAt s) n left p ≡ seek width (isStop width (wordAt s) larger x) (wordAt s) n n (x % 16)

@@ -1,21 +1,14 @@
-use mathlib.Core.Path.{_≡_, refl, sym, ap, _∙_}
-use mathlib.Core.Bool.{true, false}
+use mathlib.Core.Path.{sym, ap, _∙_}
+use mathlib.Core.Bool.{false}
 use native.Mathlib.Omega.{arith}
 use borrow.Author.Tests.{not-true, not-false}
 use Rattle.words.specs.Words.{wordAt}
-use Rattle.drawer.specs.Search.{recordOf}
-use Rattle.drawer.specs.Calls.{width, forgetOn}
+use Rattle.drawer.specs.Calls.{forgetOn}
 use Rattle.drawer.proofs.FoundLaws.{link-room, found-room}
 use Rattle.drawer.proofs.StayLaws.{with-forgotten}
 use borrow.Author.Needs.{needs}
 use Rattle.drawer.proofs.forgetting.forget.Statement.{statement}
 use Rattle.drawer.proofs.forgetting.forget.Tie as tie
-use Rattle.drawer.proofs.forgetting.forget.Reads as reads
-use Rattle.drawer.proofs.forgetting.forget.Lts as lts
-use Rattle.drawer.proofs.check.is_drawer.Reads as is-drawer-reads
-use Rattle.drawer.proofs.find.link_in.Reads as link-in-reads
-use Rattle.drawer.proofs.forgetting.free_record.Reads as free-record-reads
-use Rattle.words.proofs.word.Reads as word-reads
 
 is-drawer-requires : tie.Need-is-drawer-requires
 is-drawer-requires c κs = search needs

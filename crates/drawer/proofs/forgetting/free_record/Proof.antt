@@ -2,11 +2,6 @@ use Rattle.drawer.specs.Calls.{goneFrom}
 use borrow.Author.Needs.{needs}
 use Rattle.drawer.proofs.forgetting.free_record.Statement.{statement}
 use Rattle.drawer.proofs.forgetting.free_record.Tie as tie
-use Rattle.drawer.proofs.forgetting.free_record.Reads as reads
-use Rattle.drawer.proofs.forgetting.free_record.Lts as lts
-use Rattle.drawer.proofs.put.put_free.Reads as put-free-reads
-use Rattle.drawer.proofs.put.put_word.Reads as put-word-reads
-use Rattle.words.proofs.word.Reads as word-reads
 
 mul-word : tie.Need-mul-word
 mul-word c = search needs

@@ -1,5 +1,5 @@
-use mathlib.Core.Path.{_≡_, refl, sym, ap, _∙_}
-use Prim.Native.Nat.{ℕ, _<_, _≤_, _-_, _+_, _*_}
+use mathlib.Core.Path.{_≡_, sym, ap, _∙_}
+use Prim.Native.Nat.{ℕ, _<_, _≤_, _-_, _*_}
 use native.Mathlib.Omega.{arith}
 use borrow.Author.Needs.{needs}
 use lib.ListN.{length}
@@ -7,11 +7,6 @@ use Rattle.drawer.specs.Calls.{width}
 use Rattle.drawer.proofs.FillLaws.{freshUpTo, fresh-first, fresh-next, fresh-all, fresh-length, fresh-start}
 use Rattle.drawer.proofs.laying.fill.Statement.{statement}
 use Rattle.drawer.proofs.laying.fill.Tie as tie
-use Rattle.drawer.proofs.laying.fill.Reads as reads
-use Rattle.drawer.proofs.laying.fill.Lts as lts
-use Rattle.drawer.proofs.laying.next_free.Reads as next-free-reads
-use Rattle.drawer.proofs.laying.put_first.Reads as put-first-reads
-use Rattle.drawer.proofs.put.put_free.Reads as put-free-reads
 
 abbrev Inv-loop : tie.InvT-loop
 Inv-loop drawer₀ n r₀ drawer r = (0 < r) × (r ≤ n) × (length drawer₀ ≡ 4 * (width * n)) × (drawer ≡ freshUpTo n r drawer₀)

@@ -1,7 +1,5 @@
 use Rattle.drawer.proofs.laying.first_free.Statement.{statement}
 use Rattle.drawer.proofs.laying.first_free.Tie as tie
-use Rattle.drawer.proofs.laying.first_free.Reads as reads
-use Rattle.drawer.proofs.laying.first_free.Lts as lts
 
 returns : tie.Need-returns
 returns c = rw (c .if1 .taken)

@@ -7,11 +7,6 @@ use Rattle.drawer.proofs.ListLaws.{with-lists}
 use borrow.Author.Needs.{needs}
 use Rattle.drawer.proofs.laying.lay.Statement.{statement}
 use Rattle.drawer.proofs.laying.lay.Tie as tie
-use Rattle.drawer.proofs.laying.lay.Reads as reads
-use Rattle.drawer.proofs.laying.lay.Lts as lts
-use Rattle.drawer.proofs.check.is_whole.Reads as is-whole-reads
-use Rattle.drawer.proofs.check.records_of.Reads as records-of-reads
-use Rattle.drawer.proofs.laying.fill.Reads as fill-reads
 
 is-whole-requires : tie.Need-is-whole-requires
 is-whole-requires c κs = search needs

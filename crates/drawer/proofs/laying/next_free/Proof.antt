@@ -1,8 +1,6 @@
 use borrow.Author.Needs.{needs}
 use Rattle.drawer.proofs.laying.next_free.Statement.{statement}
 use Rattle.drawer.proofs.laying.next_free.Tie as tie
-use Rattle.drawer.proofs.laying.next_free.Reads as reads
-use Rattle.drawer.proofs.laying.next_free.Lts as lts
 
 add-more : tie.Need-add-more
 add-more c = search needs

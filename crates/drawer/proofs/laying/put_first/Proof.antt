@@ -1,10 +1,6 @@
 use borrow.Author.Needs.{needs}
 use Rattle.drawer.proofs.laying.put_first.Statement.{statement}
 use Rattle.drawer.proofs.laying.put_first.Tie as tie
-use Rattle.drawer.proofs.laying.put_first.Reads as reads
-use Rattle.drawer.proofs.laying.put_first.Lts as lts
-use Rattle.drawer.proofs.laying.first_free.Reads as first-free-reads
-use Rattle.words.proofs.put.Reads as put-reads
 
 first-free-requires : tie.Need-first-free-requires
 first-free-requires c κs = search needs

@@ -1,8 +1,8 @@
-use mathlib.Core.Path.{_≡_, refl, sym, ap, _∙_}
+use mathlib.Core.Path.{_≡_, sym, ap, _∙_}
 use native.Mathlib.Omega.{arith}
 use borrow.Author.Tests.{not-true, not-false}
 use Rattle.words.specs.Words.{wordAt}
-use Rattle.drawer.specs.Calls.{width, loadOn}
+use Rattle.drawer.specs.Calls.{loadOn}
 use lib.ListN.{length}
 use Rattle.records.proofs.TidiedLaws.{tidied-length}
 use Rattle.drawer.proofs.CaseLaws.{whole-put}
@@ -10,13 +10,6 @@ use Rattle.drawer.proofs.FoundLaws.{found-room}
 use borrow.Author.Needs.{needs}
 use Rattle.drawer.proofs.loading.load.Statement.{statement}
 use Rattle.drawer.proofs.loading.load.Tie as tie
-use Rattle.drawer.proofs.loading.load.Reads as reads
-use Rattle.drawer.proofs.loading.load.Lts as lts
-use Rattle.drawer.proofs.check.is_drawer.Reads as is-drawer-reads
-use Rattle.drawer.proofs.find.link_in.Reads as link-in-reads
-use Rattle.records.proofs.tidied.Reads as tidied-reads
-use Rattle.words.proofs.put.Reads as put-reads
-use Rattle.words.proofs.word.Reads as word-reads
 
 is-drawer-requires : tie.Need-is-drawer-requires
 is-drawer-requires c κs = search needs

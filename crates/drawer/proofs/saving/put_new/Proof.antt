@@ -2,12 +2,6 @@ use Rattle.drawer.specs.Calls.{newIn}
 use borrow.Author.Needs.{needs}
 use Rattle.drawer.proofs.saving.put_new.Statement.{statement}
 use Rattle.drawer.proofs.saving.put_new.Tie as tie
-use Rattle.drawer.proofs.saving.put_new.Reads as reads
-use Rattle.drawer.proofs.saving.put_new.Lts as lts
-use Rattle.drawer.proofs.put.put_head.Reads as put-head-reads
-use Rattle.drawer.proofs.put.put_word.Reads as put-word-reads
-use Rattle.words.proofs.put.Reads as put-reads
-use Rattle.words.proofs.word.Reads as word-reads
 
 word-requires : tie.Need-word-requires
 word-requires c κs = search needs

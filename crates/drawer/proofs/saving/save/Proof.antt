@@ -11,11 +11,6 @@ use Rattle.drawer.proofs.RewriteLaws.{kept-long, kept-sound}
 use borrow.Author.Needs.{needs}
 use Rattle.drawer.proofs.saving.save.Statement.{statement}
 use Rattle.drawer.proofs.saving.save.Tie as tie
-use Rattle.drawer.proofs.saving.save.Reads as reads
-use Rattle.drawer.proofs.saving.save.Lts as lts
-use Rattle.drawer.proofs.saving.save_words.Reads as save-words-reads
-use Rattle.records.proofs.is_damaged.Reads as is-damaged-reads
-use Rattle.records.proofs.tidied.Reads as tidied-reads
 
 is-damaged-requires : tie.Need-is-damaged-requires
 is-damaged-requires c κs = search needs

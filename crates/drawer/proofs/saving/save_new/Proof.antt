@@ -1,15 +1,9 @@
-use mathlib.Core.Path.{_≡_, refl, sym, ap, _∙_}
-use mathlib.Core.Bool.{true, false}
+use mathlib.Core.Bool.{true}
 use native.Mathlib.Omega.{arith}
 use Rattle.drawer.proofs.FoundLaws.{link-room, free-room}
 use borrow.Author.Needs.{needs}
 use Rattle.drawer.proofs.saving.save_new.Statement.{statement}
 use Rattle.drawer.proofs.saving.save_new.Tie as tie
-use Rattle.drawer.proofs.saving.save_new.Reads as reads
-use Rattle.drawer.proofs.saving.save_new.Lts as lts
-use Rattle.drawer.proofs.find.link_in.Reads as link-in-reads
-use Rattle.drawer.proofs.saving.put_new.Reads as put-new-reads
-use Rattle.words.proofs.word.Reads as word-reads
 
 word-requires : tie.Need-word-requires
 word-requires c κs = search needs

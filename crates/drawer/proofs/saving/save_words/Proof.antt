@@ -1,20 +1,13 @@
-use mathlib.Core.Path.{_≡_, refl, sym, ap, _∙_}
+use mathlib.Core.Path.{sym, ap, _∙_}
 use native.Mathlib.Omega.{arith}
 use borrow.Author.Tests.{not-true, not-false}
 use Rattle.words.specs.Words.{wordAt}
-use Rattle.drawer.specs.Calls.{width, putOn}
+use Rattle.drawer.specs.Calls.{putOn}
 use Rattle.drawer.proofs.FoundLaws.{found-room}
 use Rattle.drawer.proofs.StayLaws.{with-put}
 use borrow.Author.Needs.{needs}
 use Rattle.drawer.proofs.saving.save_words.Statement.{statement}
 use Rattle.drawer.proofs.saving.save_words.Tie as tie
-use Rattle.drawer.proofs.saving.save_words.Reads as reads
-use Rattle.drawer.proofs.saving.save_words.Lts as lts
-use Rattle.drawer.proofs.check.is_drawer.Reads as is-drawer-reads
-use Rattle.drawer.proofs.find.link_in.Reads as link-in-reads
-use Rattle.drawer.proofs.saving.save_new.Reads as save-new-reads
-use Rattle.words.proofs.put.Reads as put-reads
-use Rattle.words.proofs.word.Reads as word-reads
 
 is-drawer-requires : tie.Need-is-drawer-requires
 is-drawer-requires c κs = search needs

@@ -1,6 +1,6 @@
-use mathlib.Core.Path.{_≡_, refl, sym, ap, _∙_}
+use mathlib.Core.Path.{_≡_, sym, _∙_}
 use mathlib.Core.Bool.{true}
-use Prim.Native.Nat.{ℕ, _<_, _≤_, _-_, _+_, _*_}
+use Prim.Native.Nat.{_≤_, _-_, _+_}
 use native.Mathlib.Omega.{arith}
 use borrow.Author.Needs.{needs}
 use borrow.Author.Tests.{not-true, not-false}
@@ -11,12 +11,6 @@ use Rattle.drawer.specs.Tours.{tourFrom}
 use Rattle.drawer.proofs.TourLaws.{tour-end, tour-out, tour-next, tour-last}
 use Rattle.drawer.proofs.tour.go_along.Statement.{statement}
 use Rattle.drawer.proofs.tour.go_along.Tie as tie
-use Rattle.drawer.proofs.tour.go_along.Reads as reads
-use Rattle.drawer.proofs.tour.go_along.Lts as lts
-use Rattle.drawer.proofs.tour.id_in.Reads as id-in-reads
-use Rattle.drawer.proofs.tour.is_placed.Reads as is-placed-reads
-use Rattle.words.proofs.word.Reads as word-reads
-use Rattle.words.proofs.word_in.Reads as word-in-reads
 
 abbrev Inv-loop : tie.InvT-loop
 Inv-loop s width n k r₀ count₀ last₀ prev₀ up₀ r count last prev up =

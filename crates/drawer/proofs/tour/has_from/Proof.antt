@@ -1,6 +1,6 @@
 use borrow.Author.Needs.{needs}
-use mathlib.Core.Path.{_≡_, refl, sym, ap, _∙_}
-use Prim.Native.Nat.{ℕ, _<_, _-_, _+_, _*_}
+use mathlib.Core.Path.{_≡_, refl, sym, _∙_}
+use Prim.Native.Nat.{_-_}
 use native.Mathlib.Omega.{arith}
 use borrow.Author.Tests.{not-true, not-false}
 use Rattle.words.specs.Words.{wordAt}
@@ -9,11 +9,6 @@ use Rattle.drawer.specs.Tours.{hasFrom}
 use Rattle.drawer.proofs.TourLaws.{has-off, has-here, has-next, has-last, record-below}
 use Rattle.drawer.proofs.tour.has_from.Statement.{statement}
 use Rattle.drawer.proofs.tour.has_from.Tie as tie
-use Rattle.drawer.proofs.tour.has_from.Reads as reads
-use Rattle.drawer.proofs.tour.has_from.Lts as lts
-use Rattle.drawer.proofs.tour.id_in.Reads as id-in-reads
-use Rattle.drawer.proofs.tour.is_record.Reads as is-record-reads
-use Rattle.words.proofs.word_in.Reads as word-in-reads
 
 abbrev Inv-loop : tie.InvT-loop
 Inv-loop s width n x most first r₀ left₀ r left = hasFrom width (wordAt s) n x left r ≡ hasFrom width (wordAt s) n x most first

@@ -2,9 +2,6 @@ use Rattle.drawer.specs.Drawer.{idIn}
 use borrow.Author.Needs.{needs}
 use Rattle.drawer.proofs.tour.id_in.Statement.{statement}
 use Rattle.drawer.proofs.tour.id_in.Tie as tie
-use Rattle.drawer.proofs.tour.id_in.Reads as reads
-use Rattle.drawer.proofs.tour.id_in.Lts as lts
-use Rattle.words.proofs.word_in.Reads as word-in-reads
 
 mul-first : tie.Need-mul-first
 mul-first c = search needs

@@ -1,20 +1,12 @@
-use mathlib.Core.Path.{_≡_, refl, sym, ap, _∙_}
-use mathlib.Core.Bool.{true}
-use Prim.Native.Nat.{ℕ, _<_, _≤_, _-_, _+_, _*_}
+use mathlib.Core.Path.{_≡_}
+use Prim.Native.Nat.{ℕ}
 use native.Mathlib.Omega.{arith}
-use borrow.Author.Needs.{needs}
-use borrow.Author.Tests.{not-true, not-false}
-use Rattle.words.specs.Words.{wordAt}
 use Rattle.drawer.proofs.WidthLaws.{stands}
 use borrow.Author.Tests.{ltb-true}
-use mathlib.Core.Bool.{not}
 use Rattle.drawer.specs.Drawer.{isState}
 use Rattle.drawer.specs.Tours.{isPlaced}
 use Rattle.drawer.proofs.tour.is_placed.Statement.{statement}
 use Rattle.drawer.proofs.tour.is_placed.Tie as tie
-use Rattle.drawer.proofs.tour.is_placed.Reads as reads
-use Rattle.drawer.proofs.tour.is_placed.Lts as lts
-use Rattle.drawer.proofs.tour.id_in.Reads as id-in-reads
 
 returns : tie.Need-returns
 unfolding isPlaced

@@ -1,22 +1,14 @@
-use mathlib.Core.Path.{_≡_, refl, sym, ap, _∙_}
-use mathlib.Core.Bool.{true}
-use Prim.Native.Nat.{ℕ, _<_, _≤_, _-_, _+_, _*_}
+use mathlib.Core.Path.{_≡_, sym, ap, _∙_}
+use Prim.Native.Nat.{_-_}
 use native.Mathlib.Omega.{arith}
 use borrow.Author.Needs.{needs}
 use borrow.Author.Tests.{not-true, not-false}
 use Rattle.words.specs.Words.{wordAt}
 use Rattle.drawer.proofs.WidthLaws.{stands}
-use Rattle.drawer.specs.Tours.{twiceFrom, hasFrom}
+use Rattle.drawer.specs.Tours.{twiceFrom}
 use Rattle.drawer.proofs.TourLaws.{twice-off, twice-here, twice-next, twice-last, record-below}
 use Rattle.drawer.proofs.tour.is_twice.Statement.{statement}
 use Rattle.drawer.proofs.tour.is_twice.Tie as tie
-use Rattle.drawer.proofs.tour.is_twice.Reads as reads
-use Rattle.drawer.proofs.tour.is_twice.Lts as lts
-use Rattle.drawer.proofs.tour.has_from.Reads as has-from-reads
-use Rattle.drawer.proofs.tour.id_in.Reads as id-in-reads
-use Rattle.drawer.proofs.tour.is_record.Reads as is-record-reads
-use Rattle.words.proofs.word.Reads as word-reads
-use Rattle.words.proofs.word_in.Reads as word-in-reads
 
 abbrev Inv-loop : tie.InvT-loop
 Inv-loop s width n k r₀ left₀ r left = twiceFrom width (wordAt s) n left r ≡ twiceFrom width (wordAt s) n n (wordAt s k)
