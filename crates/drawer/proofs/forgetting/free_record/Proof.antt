@@ -27,7 +27,13 @@ same-length c = search needs
 returns : tie.Need-returns
 unfolding goneFrom
 returns c =
-    rw (c .before .before .put-word2 .ensures, c .before .before .before .before .before .before .put-free .ensures, c .before .before .before .before .before .before .before .before .before .before .put-word .ensures, c .before .before .before .before .before .before .before .before .before .before .before .before .before .before .word .ensures, c .before .before .before .before .before .before .before .before .before .before .before .before .word2 .ensures)
+    rw (
+      c .before .before .put-word2 .ensures,
+      c .before .before .before .before .before .before .put-free .ensures,
+      c .before .before .before .before .before .before .before .before .before .before .put-word .ensures,
+      ← c .before .before .before .before .before .before .before .before .before .before .before .before .before .before .word .ensures,
+      ← c .before .before .before .before .before .before .before .before .before .before .before .before .word2 .ensures,
+    )
 
 pub free-record-spec : {M : Type 1} → statement M
 free-record-spec =

@@ -50,8 +50,8 @@ returns c =
       c .before .before .before .before .before .before .put .ensures,
       c .before .before .before .before .before .before .before .before .before .before .put-head .ensures,
       c .before .before .before .before .before .before .before .before .before .before .before .before .before .before .put-word .ensures,
-      c .before .before .before .before .before .before .before .before .before .before .before .before .before .before .before .before .before .before .word .ensures,
-      c .before .before .before .before .before .before .before .before .before .before .before .before .before .before .before .before .word2 .ensures,
+      ← c .before .before .before .before .before .before .before .before .before .before .before .before .before .before .before .before .before .before .word .ensures,
+      ← c .before .before .before .before .before .before .before .before .before .before .before .before .before .before .before .before .word2 .ensures,
     )
 
 pub put-new-spec : {M : Type 1} → statement M

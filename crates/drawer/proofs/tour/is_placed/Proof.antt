@@ -42,7 +42,7 @@ is-damaged-requires c κs =
 
 returns-2 : tie.Need-returns-2
 unfolding isPlaced isState
-returns-2 c = (rw (c .before .before .before .if1 .taken, c .before .before .if2 .left, ← c .before .id-in .ensures, ← c .is-damaged .ensures), λ e. ltb-true _ _ (c .before .before .before .if1 .taken))
+returns-2 c = (rw (c .before .before .before .if1 .taken, c .before .before .if2 .left, ← c .before .id-in .ensures, c .is-damaged .ensures), λ e. ltb-true _ _ (c .before .before .before .if1 .taken))
 
 returns-3 : tie.Need-returns-3
 unfolding isPlaced
