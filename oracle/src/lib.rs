@@ -6,6 +6,8 @@ pub mod axis_vectors;
 pub mod branches;
 pub mod clock;
 pub mod command_line;
+pub mod drawer;
+pub mod drawer_vectors;
 pub mod frame;
 pub mod frame_begin;
 pub mod frame_call;

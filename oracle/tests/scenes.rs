@@ -177,14 +177,14 @@ fn coasts_meet_every_number_of_halvings_and_springs_need_none() {
     }
 }
 
-/// That each branch but those of tables, runs, resets, who takes a turn, and bad words is met so often in a list of scenes; a frame counts when
-/// it is made and when it is run.
+/// That each branch but those of tables, runs, resets, who takes a turn, bad words and drawers is met so often in a list of scenes; a
+/// frame counts when it is made and when it is run.
 #[cfg(feature = "branches")]
 fn assert_every_branch_is_met(seed: u64, count: usize, least: u64) {
     use oracle::branches::{count_of, BRANCHES, OF_TABLES};
-    use oracle::branches::{OF_BAD_WORDS, OF_RESETS, OF_RUNS, OF_WHEEL};
+    use oracle::branches::{OF_BAD_WORDS, OF_DRAWERS, OF_RESETS, OF_RUNS, OF_WHEEL};
     played(seed, count);
-    let others = [OF_RUNS, OF_RESETS, OF_WHEEL, OF_BAD_WORDS].concat();
+    let others = [OF_RUNS, OF_RESETS, OF_WHEEL, OF_BAD_WORDS, OF_DRAWERS].concat();
     let is_of_frames = |named: &&(_, _)| !OF_TABLES.contains(&named.0) && !others.contains(named);
     for (branch, words) in BRANCHES.iter().filter(is_of_frames) {
         let met = count_of(*branch) / 2;

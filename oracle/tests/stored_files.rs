@@ -9,7 +9,7 @@ use oracle::clock::run;
 use oracle::frame_checks::sweep_line;
 use oracle::frame_vectors::{self, Call};
 use oracle::scenes::scene_list;
-use oracle::{axis_vectors, run_vectors, sweep_vectors, table_vectors};
+use oracle::{axis_vectors, drawer_vectors, run_vectors, sweep_vectors, table_vectors};
 
 /// That the files of a crate are these records and lines.
 fn assert_stored(name: &str, records: Vec<Vec<u8>>, lines: Vec<String>) {
@@ -66,6 +66,14 @@ fn the_calls_under_tables_are_stored() {
     let records = list.iter().map(table_vectors::Record::input_record);
     let lines = lines_of(table_vectors::answers(&list));
     assert_stored("replay_tables", records.collect(), lines);
+}
+
+#[test]
+fn the_calls_on_a_drawer_are_stored() {
+    let list = drawer_vectors::fixed_list();
+    let records = list.iter().map(drawer_vectors::Call::input_record);
+    let lines = lines_of(drawer_vectors::answers(&list));
+    assert_stored("replay_drawers", records.collect(), lines);
 }
 
 /// Document 01's frames, and scenes.

@@ -30,7 +30,7 @@ pub use good::{bare, example, full};
 pub use places::PAIRS;
 pub(crate) use random::good_frame;
 pub use random::{random_list, random_state};
-pub(crate) use states::stored;
+pub(crate) use states::{stored, with_only};
 
 /// How many bytes of a frame a record stores.
 pub(crate) const STORED: usize = 424;

@@ -1,5 +1,4 @@
-//! How often each branch of `begin`, `end`, exp, a table's load, a run, the clock, a turn of the wheel and a bad word is met; without the
-//! feature `branches` nothing is counted.
+//! The list of the branches.
 
 macro_rules! branches {
     ($($branch:ident $words:literal)*) => {
@@ -141,110 +140,50 @@ branches! {
     Lowered5To2 "bad word: 5 is kept first, 2 in the end"
     Lowered5To3 "bad word: 5 is kept first, 3 in the end"
     Lowered5To4 "bad word: 5 is kept first, 4 in the end"
-}
-
-/// Those that frames without a table cannot meet.
-pub const OF_TABLES: [Branch; 7] = [
-    Branch::GivenEntry,
-    Branch::GivenSquared,
-    Branch::GivenBelow,
-    Branch::TableLength,
-    Branch::TableFirst,
-    Branch::TableOrder,
-    Branch::TableLoads,
-];
-
-/// Those that frames alone cannot meet: a run's, from the first to the last of them.
-pub const OF_RUNS: &[(Branch, &str)] = {
-    let (up_to_last, _) = BRANCHES.split_at(Branch::OnlyWord98 as usize + 1);
-    up_to_last.split_at(Branch::RunRests as usize).1
-};
-
-/// Those of the clock, from the first to the last of them.
-pub const OF_CLOCK: &[(Branch, &str)] = {
-    let (up_to_last, _) = BRANCHES.split_at(Branch::ResetAboveZero as usize + 1);
-    up_to_last.split_at(Branch::ClockBack as usize).1
-};
-
-/// Those of them that whole frames without a reset cannot meet, or at their first times alone.
-pub const OF_RESETS: &[(Branch, &str)] = {
-    let before = Branch::MinusZeroRemembered as usize - Branch::ClockBack as usize;
-    OF_CLOCK.split_at(before).1
-};
-
-/// Those of who takes a turn of the wheel, from the first to the last of them.
-pub const OF_WHEEL: &[(Branch, &str)] = {
-    let (up_to_last, _) = BRANCHES.split_at(Branch::TurnNobody as usize + 1);
-    up_to_last.split_at(Branch::CallZero as usize).1
-};
-
-/// Those of them that wheel calls meet, in the order of the grounds.
-pub const OF_WHEEL_CALLS: &[(Branch, &str)] = {
-    let calls = Branch::TurnZero as usize - Branch::CallZero as usize;
-    OF_WHEEL.split_at(calls).0
-};
-
-/// Those of them that frames meet, in the order of the grounds.
-pub const OF_TURNS: &[(Branch, &str)] = OF_WHEEL.split_at(OF_WHEEL_CALLS.len()).1;
-
-/// Those that a bad word alone can meet, to the end of the list.
-pub const OF_BAD_WORDS: &[(Branch, &str)] = BRANCHES.split_at(Branch::Kept2 as usize).1;
-
-#[cfg(feature = "branches")]
-mod counts {
-    use super::{Branch, BRANCHES};
-    use std::cell::Cell;
-
-    thread_local! {
-        static COUNTS: [Cell<u64>; BRANCHES.len()] = const { [const { Cell::new(0) }; BRANCHES.len()] };
-    }
-
-    pub fn met(branch: Branch) {
-        COUNTS.with(|counts| {
-            let count = &counts[branch as usize];
-            count.set(count.get() + 1);
-        });
-    }
-
-    /// Counts the branch that is found, if any; those that are met on the way do not count.
-    pub fn met_by(find: impl FnOnce() -> Option<Branch>) {
-        let before = COUNTS.with(Clone::clone);
-        let found = find();
-        COUNTS.with(|counts| {
-            for (count, before) in counts.iter().zip(before) {
-                count.set(before.get());
-            }
-        });
-        found.into_iter().for_each(met);
-    }
-
-    /// How often a branch was met in this thread.
-    pub fn count_of(branch: Branch) -> u64 {
-        COUNTS.with(|counts| counts[branch as usize].get())
-    }
-}
-
-#[cfg(feature = "branches")]
-pub use counts::{count_of, met, met_by};
-
-#[cfg(not(feature = "branches"))]
-#[inline(always)]
-pub fn met(_: Branch) {}
-
-#[cfg(not(feature = "branches"))]
-#[inline(always)]
-pub fn met_by(_: impl FnOnce() -> Option<Branch>) {}
-
-/// The first branch where the test holds, else the second.
-#[inline(always)]
-pub fn met_either(test: bool, first: Branch, second: Branch) {
-    met(if test { first } else { second });
-}
-
-/// The branch where the test holds.
-#[inline(always)]
-pub fn met_if(test: bool, branch: Branch) {
-    if test {
-        met(branch);
-    }
+    DrawerEmpty "drawer of no bytes: 13"
+    DrawerNotWhole "drawer of no whole number of records: 13"
+    DrawerTooLarge "drawer of more than 65,536 records: 13"
+    DrawerOtherLength "drawer that names another record length: 13"
+    DrawerRunsOut "drawer with a chain that runs out of it: 13"
+    DrawerUsedMeet "drawer with two used chains that meet: 13"
+    DrawerFreeMeets "drawer with a used chain that meets the free one: 13"
+    DrawerCircles "drawer with a chain that circles: 13"
+    DrawerMisses "drawer with a record that no chain has: 13"
+    DrawerIdTwice "drawer with an id twice: 13"
+    DrawerWrongHead "drawer with an id under the wrong head: 13"
+    DrawerFlag "drawer with a state flag outside its values: 13"
+    OnlyOtherLength "drawer refused by the record length that it names alone: 13"
+    OnlyRunsOut "drawer refused by a chain that runs out of it alone: 13"
+    OnlyFreeMeets "drawer refused by a used chain that meets the free one alone: 13"
+    OnlyCircles "drawer refused by a chain that circles alone: 13"
+    OnlyMisses "drawer refused by a record that no chain has alone: 13"
+    OnlyIdTwice "drawer refused by an id that is there twice alone: 13"
+    OnlyWrongHead "drawer refused by an id under the wrong head alone: 13"
+    OnlyFlag "drawer refused by a state flag outside its values alone: 13"
+    RunsOutByOne "chain that names the record just behind the drawer"
+    FreeRunsOut "free chain that runs out of the drawer"
+    FreeCircles "free chain that circles"
+    CircleOfOne "record that is the next of itself"
+    Save6 "save of a state with a flag outside its values: 6"
+    Save6Before13 "6 ahead of 13"
+    Save6Before15 "6 ahead of 15"
+    Load14 "load of an absent id: 14"
+    Forget14 "forget of an absent id: 14"
+    Save15 "save of a new id with no free record: 15"
+    SaveOnly "save of a new id, the only one of its chain"
+    SaveFront "save of a new id ahead of its chain"
+    SaveMiddle "save of a new id inside its chain"
+    SaveEnd "save of a new id at the end of its chain"
+    SaveTakesLast "save that takes the last free record"
+    SaveAgain "save of a known id"
+    SaveAgainFull "save of a known id with no free record"
+    SaveClears "save that clears words of absent options"
+    ForgetOnly "forget of the only one of its chain"
+    ForgetFront "forget of the first one of its chain"
+    ForgetMiddle "forget inside a chain"
+    ForgetEnd "forget of the last one of its chain"
+    LoadFound "load of a known id"
+    LoadClears "load that leaves out words in absent options"
+    LayOne "laying out of one record alone"
+    NotAscending "drawer with a chain that does not ascend, which is none of 13"
 }
