@@ -6,10 +6,10 @@
  * when written where the flag is 0.
  *
  * No call allocates, keeps a pointer, or touches anything but what it is handed. The buffers of one call must not
- * overlap, must have at least the lengths named (a frame: len bytes), and nobody else may write them meanwhile.
- * Alignment does not matter. Calls on different buffers may run in different threads. The floating-point environment
- * must be the usual one: rounding to nearest even, no flush to zero, exceptions masked. No call changes it, but for its
- * status flags. The stack that the calls take is measured (README), not proved.
+ * overlap, must have at least the lengths named (a frame, a drawer: len bytes), and nobody else may write them
+ * meanwhile. Alignment does not matter. Calls on different buffers may run in different threads. The floating-point
+ * environment must be the usual one: rounding to nearest even, no flush to zero, exceptions masked. No call changes it,
+ * but for its status flags. The stack that the calls take is measured (README), not proved.
  *
  * Every answer, but for that of strakobud_bad_word, is 0 or the number of a refusal:
  *   1  the frame is not 416 bytes long
@@ -32,6 +32,13 @@
  * And of a table, when it is loaded:
  *  10  it is not 8,200 bytes long
  *  11  its first entry is not 2^40, or an entry is above the one before it
+ *
+ * And of a drawer, in this order; a save tries 6 ahead of them, on the flags of its state alone:
+ *  13  it is not a drawer: its length is not 1 to 65,536 whole records; it names another record length; its chains run
+ *      out of it, meet, circle or miss a record; it holds an id twice or under the wrong head, or a state with a flag
+ *      that is not 0 or 1
+ *  14  the id that is to be loaded or forgotten is not there
+ *  15  the id that is to be saved is new, and no record is free
  *
  * What a host has to do:
  * - Draw by the shown offset: strakobud_offset, after the frame. The viewport in out is where the list stood before it
@@ -63,6 +70,7 @@ extern "C" {
 #define STRAKOBUD_TABLE_BYTES 8200
 #define STRAKOBUD_RUN_BYTES 12
 #define STRAKOBUD_USED_BYTES 4
+#define STRAKOBUD_DRAWER_RECORD_BYTES 168
 
 /* Writes a fresh state: at the start, at rest, stuck to the end, with time 0.
  *
@@ -149,6 +157,40 @@ uint32_t strakobud_settle_by(uint8_t state[STRAKOBUD_STATE_BYTES], const uint8_t
 /* The shown offset x, y, by which the list is drawn: the stored one held to its range. 0, or 6 for a state with a flag
  * that is not 0 or 1, with out as it was. */
 uint32_t strakobud_offset(const uint8_t state[STRAKOBUD_STATE_BYTES], uint8_t out[8]);
+
+/* A drawer holds the states of a panel's lists in one buffer, each under an id of 64 bits that the host chooses. It has
+ * 1 to 65,536 records of 168 bytes, the first of them for itself, so that n records hold n - 1 lists. Lay it out once,
+ * hand each call the length that it was laid out with (another is 13), lend it to one call at a time, and write it by
+ * these calls alone: then 13 is never answered, and a load gives the last state saved under its id since that was last
+ * forgotten, or 14. On a buffer that somebody else wrote each answer is defined too, and a call that answers 0 leaves a
+ * drawer. At a refusal both buffers are as they were.
+ *
+ * The 42 words of a record: the index of the next record of its chain, 0 at the chain's end; id 2, the low word first;
+ * the 39 words of the state. Record 0: the heads of 16 chains of used records, one for each value of the lowest four
+ * bits of an id; the head of the chain of free ones; the length of a record in bytes, 168; then zeros. A head is the
+ * index of its chain's first record, or 0. In each chain of used records these calls keep the ids ascending; a free
+ * record has zeros after its index. Words 19 to 42 of record 0, and of a free record all after its index, are not
+ * looked at.
+ *
+ * Laying out writes each record once. Each other call goes along every record of the buffer once, used or free, and
+ * along the id's chain at most twice more: what it costs grows with the records, and no faster where all ids fall under
+ * one head (README). Lend no more records than the panel has lists, and one. A chain of somebody else's in which the
+ * ids do not ascend is compared in pairs, which takes the square of its length. */
+
+/* Lays out a drawer that holds nothing: reads the length alone, and writes every byte. 0 or 13. */
+uint32_t strakobud_drawer_lay(uint8_t *drawer, size_t len);
+
+/* Keeps a state: in the place of the one that the id has, else in the first free record. Its words are kept bit for
+ * bit, those of numbers that are not finite too, but the words of absent options as zeros. 0, 6 (a flag that is not 0
+ * or 1), 13 or 15. */
+uint32_t strakobud_drawer_save(uint8_t *drawer, size_t len, uint64_t id, const uint8_t state[STRAKOBUD_STATE_BYTES]);
+
+/* Hands out the state that the id has, the words of absent options as zeros. 0, 13 or 14. A state that is fresh before
+ * the call is fresh after a 14, as the first frame of a list wants it. */
+uint32_t strakobud_drawer_load(const uint8_t *drawer, size_t len, uint64_t id, uint8_t state[STRAKOBUD_STATE_BYTES]);
+
+/* Takes out an id with its state. Its record has zeros then, and is the first free one. 0, 13 or 14. */
+uint32_t strakobud_drawer_forget(uint8_t *drawer, size_t len, uint64_t id);
 
 /* One axis by itself. A call begins with bounds min, bounds max, extent, decay_time, stop_distance, rubber_band. On a
  * refusal out holds what was given, with the answer 0. */

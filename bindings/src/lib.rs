@@ -15,6 +15,9 @@ pub type RunBytes = [u8; 12];
 /// The frames that a settling run used.
 pub type UsedBytes = [u8; 4];
 
+/// The length of one record of a drawer.
+pub const DRAWER_RECORD_BYTES: usize = 168;
+
 mod c {
     extern "C" {
         pub fn strakobud_fresh(state: *mut u8);
@@ -46,6 +49,12 @@ mod c {
         pub fn strakobud_table_load(bytes: *const u8, len: usize, table: *mut u8) -> u32;
         pub fn strakobud_table_t(table: *mut u8);
         pub fn strakobud_offset(state: *const u8, out: *mut u8) -> u32;
+        pub fn strakobud_drawer_lay(drawer: *mut u8, len: usize) -> u32;
+        pub fn strakobud_drawer_save(drawer: *mut u8, len: usize, id: u64, state: *const u8)
+            -> u32;
+        pub fn strakobud_drawer_load(drawer: *const u8, len: usize, id: u64, state: *mut u8)
+            -> u32;
+        pub fn strakobud_drawer_forget(drawer: *mut u8, len: usize, id: u64) -> u32;
         pub fn strakobud_drag(call: *const u8, out: *mut u8) -> u32;
         pub fn strakobud_step(call: *const u8, out: *mut u8) -> u32;
         pub fn strakobud_step_by(call: *const u8, table: *const u8, out: *mut u8) -> u32;
@@ -109,6 +118,24 @@ pub fn table_t(table: &mut TableBytes) {
 
 pub fn offset(state: &StateBytes, out: &mut [u8; 8]) -> u32 {
     unsafe { c::strakobud_offset(state.as_ptr(), out.as_mut_ptr()) }
+}
+
+pub fn drawer_lay(drawer: &mut [u8]) -> u32 {
+    unsafe { c::strakobud_drawer_lay(drawer.as_mut_ptr(), drawer.len()) }
+}
+
+pub fn drawer_save(drawer: &mut [u8], id: u64, state: &StateBytes) -> u32 {
+    let (bytes, len) = (drawer.as_mut_ptr(), drawer.len());
+    unsafe { c::strakobud_drawer_save(bytes, len, id, state.as_ptr()) }
+}
+
+pub fn drawer_load(drawer: &[u8], id: u64, state: &mut StateBytes) -> u32 {
+    let (bytes, len) = (drawer.as_ptr(), drawer.len());
+    unsafe { c::strakobud_drawer_load(bytes, len, id, state.as_mut_ptr()) }
+}
+
+pub fn drawer_forget(drawer: &mut [u8], id: u64) -> u32 {
+    unsafe { c::strakobud_drawer_forget(drawer.as_mut_ptr(), drawer.len(), id) }
 }
 
 pub fn drag(call: &[u8; 32], out: &mut [u8; 4]) -> u32 {
