@@ -1,7 +1,7 @@
 /* A list of events on a panel: rows arrive and the list stays on its last entry. A row that arrives with a touch sample that
  * is not a number is refused with it, and shown once the frame is run again without its input. Then a table for the decay is
- * loaded and serves; somebody flicks the list, which coasts until it rests; the clock is set back; and a wheel is turned at
- * the end of a list. */
+ * loaded and serves; somebody flicks the list, which coasts until it rests; the clock is set back; a wheel is turned at the
+ * end of a list; and two lists keep their states in one drawer. */
 #include <inttypes.h>
 #include <math.h>
 #include <stdio.h>
@@ -150,6 +150,40 @@ static void turn(const char *what, float delta)
     printf("a turn %s: refusal %" PRIu32 ", %s\n", what, refusal, word_at(out, 4) ? "taken" : "left to the parent");
 }
 
+/* Three records, the first of them the drawer's own, so room for two lists. */
+static uint8_t drawer[3 * STRAKOBUD_DRAWER_RECORD_BYTES];
+
+enum { EVENTS = 1, ALARMS = 2, TRENDS = 3 };
+
+/* A frame of the list with that id: its state from the drawer, or the fresh one, which stays where the id is not there. */
+static void frame_of(uint64_t id, const char *what, float content_height)
+{
+    uint8_t state[STRAKOBUD_STATE_BYTES], frame[STRAKOBUD_FRAME_BYTES], out[STRAKOBUD_OUT_BYTES];
+    list_frame(frame, content_height);
+    strakobud_fresh(state);
+    uint32_t load = strakobud_drawer_load(drawer, sizeof drawer, id, state);
+    uint32_t refusal = strakobud_frame(state, frame, sizeof frame, out);
+    uint32_t save = strakobud_drawer_save(drawer, sizeof drawer, id, state);
+    char line[40];
+    snprintf(line, sizeof line, "%s (load %" PRIu32 ", save %" PRIu32 ")", what, load, save);
+    show(line, refusal, state);
+}
+
+static void keep_two(void)
+{
+    uint8_t before[STRAKOBUD_STATE_BYTES], after[STRAKOBUD_STATE_BYTES];
+    printf("a drawer: lay %" PRIu32 "\n", strakobud_drawer_lay(drawer, sizeof drawer));
+    frame_of(EVENTS, "20 events", 400);
+    frame_of(ALARMS, "6 alarms", 120);
+    strakobud_drawer_load(drawer, sizeof drawer, ALARMS, before);
+    frame_of(EVENTS, "21 events", 420);
+    strakobud_drawer_load(drawer, sizeof drawer, ALARMS, after);
+    printf("the alarms: %s\n", memcmp(before, after, sizeof after) == 0 ? "as they were" : "touched");
+    frame_of(TRENDS, "a third list", 400);
+    printf("the events: forget %" PRIu32, strakobud_drawer_forget(drawer, sizeof drawer, EVENTS));
+    printf(", load %" PRIu32 "\n", strakobud_drawer_load(drawer, sizeof drawer, EVENTS, after));
+}
+
 int main(void)
 {
     uint8_t state[STRAKOBUD_STATE_BYTES], frame[STRAKOBUD_FRAME_BYTES], out[STRAKOBUD_OUT_BYTES];
@@ -181,5 +215,6 @@ int main(void)
     set_back(state, frame);
     turn("past the end", 8);
     turn("back", -8);
+    keep_two();
     return 0;
 }

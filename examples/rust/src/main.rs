@@ -1,7 +1,7 @@
 //! A list of events on a panel: rows arrive and the list stays on its last entry. A row that arrives with a touch sample that is
 //! not a number is refused with it, and shown once the frame is run again without its input. Then a table for the decay is loaded
-//! and serves; somebody flicks the list, which coasts until it rests; the clock is set back; and a wheel is turned at the end of a
-//! list. Words are numbered from 1, as in include/strakobud.h.
+//! and serves; somebody flicks the list, which coasts until it rests; the clock is set back; a wheel is turned at the end of a
+//! list; and two lists keep their states in one drawer. Words are numbered from 1, as in include/strakobud.h.
 
 struct Frame([u8; 416]);
 
@@ -121,6 +121,38 @@ fn turn(what: &str, delta: f32) {
     println!("a turn {what}: refusal {refusal}, {answer}");
 }
 
+const EVENTS: u64 = 1;
+const ALARMS: u64 = 2;
+const TRENDS: u64 = 3;
+
+/// A frame of the list with that id: its state from the drawer, or the fresh one, which stays where the id is not there.
+fn frame_of(drawer: &mut [u8], id: u64, what: &str, content_height: f32) {
+    let (mut state, mut out) = ([0; 156], [0; 100]);
+    strakobud::fresh(&mut state);
+    let load = strakobud::drawer_load(drawer, id, &mut state);
+    let refusal = strakobud::frame(&mut state, &Frame::of_list(content_height).0, &mut out);
+    let save = strakobud::drawer_save(drawer, id, &state);
+    show(&format!("{what} (load {load}, save {save})"), refusal, &state);
+}
+
+fn keep_two() {
+    // Three records, the first of them the drawer's own, so room for two lists.
+    let mut drawer = [0; 3 * strakobud::DRAWER_RECORD_BYTES];
+    let (mut before, mut after) = ([0; 156], [0; 156]);
+    println!("a drawer: lay {}", strakobud::drawer_lay(&mut drawer));
+    frame_of(&mut drawer, EVENTS, "20 events", 400.0);
+    frame_of(&mut drawer, ALARMS, "6 alarms", 120.0);
+    strakobud::drawer_load(&drawer, ALARMS, &mut before);
+    frame_of(&mut drawer, EVENTS, "21 events", 420.0);
+    strakobud::drawer_load(&drawer, ALARMS, &mut after);
+    let alarms = if before == after { "as they were" } else { "touched" };
+    println!("the alarms: {alarms}");
+    frame_of(&mut drawer, TRENDS, "a third list", 400.0);
+    let forget = strakobud::drawer_forget(&mut drawer, EVENTS);
+    let load = strakobud::drawer_load(&drawer, EVENTS, &mut after);
+    println!("the events: forget {forget}, load {load}");
+}
+
 fn main() {
     let (mut state, mut out) = ([0; 156], [0; 100]);
     strakobud::fresh(&mut state);
@@ -154,4 +186,5 @@ fn main() {
     set_back(&mut state, &frame);
     turn("past the end", 8.0);
     turn("back", -8.0);
+    keep_two();
 }
