@@ -2,7 +2,8 @@ use mathlib.Core.Path.{_≡_, sym, ap, _∙_}
 use native.Mathlib.Omega.{arith}
 use borrow.Author.Tests.{not-true, not-false}
 use Rattle.words.specs.Words.{wordAt}
-use Rattle.drawer.specs.Calls.{loadOn}
+use Rattle.drawer.specs.Search.{recordOf}
+use Rattle.drawer.specs.Calls.{width, loadOn}
 use lib.ListN.{length}
 use Rattle.records.proofs.TidiedLaws.{tidied-length}
 use Rattle.drawer.proofs.CaseLaws.{whole-put}
@@ -26,7 +27,10 @@ word-requires c κs = search needs
 
 returns-2 : tie.Need-returns-2
 unfolding loadOn
-returns-2 c = rw (← c .before .before .before .before .is-drawer .ensures, not-false (c .before .before .before .before .is-drawer .result) (c .before .before .before .if1 .left), ← c .before .before .link-in .ensures, ← c .before .word .ensures, c .if2 .taken)
+returns-2 c =
+    let a = c .before .before .before .before .before .before .args in
+    let named : c .before .word .result ≡ recordOf width (a .drawer .now) (a .id) = c .before .word .ensures ∙ ap (wordAt (a .drawer .now)) (c .before .before .link-in .ensures) in
+    rw (← c .before .before .before .before .is-drawer .ensures, not-false (c .before .before .before .before .is-drawer .result) (c .before .before .before .if1 .left), ← named, c .if2 .taken)
 
 mul-tidied : tie.Need-mul-tidied
 mul-tidied c =
@@ -65,14 +69,14 @@ returns-3 : tie.Need-returns-3
 unfolding loadOn
 returns-3 c =
     let a = c .before .before .before .before .before .before .before .before .before .before .args in
+    let named : c .before .before .before .before .before .word .result ≡ recordOf width (a .drawer .now) (a .id) = c .before .before .before .before .before .word .ensures ∙ ap (wordAt (a .drawer .now)) (c .before .before .before .before .before .before .link-in .ensures) in
     let ws = c .before .before .before .tidied .result in
     let long : length (a .state .now) ≡ 156 = search needs in
     let many : length ws ≡ 39 = ap length (c .before .before .before .tidied .ensures .0) ∙ tidied-length _ _ in
     rw (
       ← c .before .before .before .before .before .before .before .before .is-drawer .ensures,
       not-false (c .before .before .before .before .before .before .before .before .is-drawer .result) (c .before .before .before .before .before .before .before .if1 .left),
-      ← c .before .before .before .before .before .before .link-in .ensures,
-      ← c .before .before .before .before .before .word .ensures,
+      ← named,
       c .before .before .before .before .if2 .left,
       c .put .ensures,
       whole-put ws (a .state .now) (omega (arith, long, many)),

@@ -1,8 +1,9 @@
-use mathlib.Core.Path.{sym, ap, _∙_}
+use mathlib.Core.Path.{_≡_, sym, ap, _∙_}
 use native.Mathlib.Omega.{arith}
 use borrow.Author.Tests.{not-true, not-false}
 use Rattle.words.specs.Words.{wordAt}
-use Rattle.drawer.specs.Calls.{putOn}
+use Rattle.drawer.specs.Search.{recordOf}
+use Rattle.drawer.specs.Calls.{width, putOn}
 use Rattle.drawer.proofs.FoundLaws.{found-room}
 use Rattle.drawer.proofs.StayLaws.{with-put}
 use borrow.Author.Needs.{needs}
@@ -40,12 +41,12 @@ unfolding putOn
 returns-2 c =
     let at-start = c .before .before .before .before .before .before .before .before .before .before .before .before .before in
     let a = at-start .args in
+    let named : c .before .before .before .before .before .word .result ≡ recordOf width (a .drawer .now) (a .id) = c .before .before .before .before .before .word .ensures ∙ ap (wordAt (a .drawer .now)) (c .before .before .before .before .before .before .link-in .ensures) in
     with-put (a .drawer .now) _ _ (a .id) (a .words .now) (omega arith) (at-start .pre .0) (λ i. omega (arith, c .before .before .before .before .before .before .before .before .before .before .before .shared-slice-known .given i)) (at-start .pre .1)
     (rw (
       ← c .before .before .before .before .before .before .before .before .before .is-drawer .ensures,
       not-false (c .before .before .before .before .before .before .before .before .before .is-drawer .result) (c .before .before .before .before .before .before .before .before .if1 .left),
-      ← c .before .before .before .before .before .before .link-in .ensures,
-      ← c .before .before .before .before .before .word .ensures,
+      ← named,
       c .before .before .before .before .if2 .taken,
     )
     (c .before .before .save-new .ensures))
@@ -82,12 +83,12 @@ unfolding putOn
 returns-3 c =
     let at-start = c .before .before .before .before .before .before .before .before .before .before .before .before .before in
     let a = at-start .args in
+    let named : c .before .before .before .before .before .word .result ≡ recordOf width (a .drawer .now) (a .id) = c .before .before .before .before .before .word .ensures ∙ ap (wordAt (a .drawer .now)) (c .before .before .before .before .before .before .link-in .ensures) in
     with-put (a .drawer .now) _ _ (a .id) (a .words .now) (omega arith) (at-start .pre .0) (λ i. omega (arith, c .before .before .before .before .before .before .before .before .before .before .before .shared-slice-known .given i)) (at-start .pre .1)
     (rw (
       ← c .before .before .before .before .before .before .before .before .before .is-drawer .ensures,
       not-false (c .before .before .before .before .before .before .before .before .before .is-drawer .result) (c .before .before .before .before .before .before .before .before .if1 .left),
-      ← c .before .before .before .before .before .before .link-in .ensures,
-      ← c .before .before .before .before .before .word .ensures,
+      ← named,
       c .before .before .before .before .if2 .left,
       c .before .before .put .ensures,
     ))
