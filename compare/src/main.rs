@@ -1,20 +1,28 @@
 //! Runs the library and the oracle on the same bytes, in one process, and compares every byte left.
 //!
-//! `compare SEED FRAMES STATES CALLS UNDER RUNS`: frames and resets of scenes from fresh states, frames on arbitrary states, axis calls and,
+//! `compare SEED FRAMES STATES CALLS UNDER RUNS DRAWERS`: frames and resets of scenes from fresh states, frames on arbitrary states, axis calls and,
 //! that often too, bad words and resets of arbitrary records; then, each that often, frames of both kinds and steps under tables and with T
-//! lent, and a tenth as many loads; then settling runs, each by T, with T lent and under tables. It fails where the two sides differ, where an
-//! answer of the library's wheel breaks the law of which turns are taken, where the frames on states leave out a branch of the clock, where
-//! the wheel calls or the turns in frames leave out a ground on which a turn is taken or left, where the runs leave out an end or a ground
-//! that a run can have, and where the bad words leave out a number that is kept first or one that lowers it.
+//! lent, and a tenth as many loads; then settling runs, each by T, with T lent and under tables; then calls on drawers that nobody else writes,
+//! and as many on others. It fails where the two sides differ, where an answer of the library's wheel breaks the law of which turns are taken,
+//! where its drawer answers otherwise than by what it holds, where the frames on states leave out a branch of the clock, where the wheel calls
+//! or the turns in frames leave out a ground on which a turn is taken or left, where the runs leave out an end or a ground that a run can
+//! have, where the bad words leave out a number that is kept first or one that lowers it, and where the drawers leave out a ground of 13 or a
+//! way that a call can go.
 //!
 //! The remembered time and the frames refused with 12 are left out of what the Rust is compared on, as `frames` says: they are compared with
 //! the oracle's model of the clock.
 
 mod bad_words;
 mod calls;
+mod drawer_lists;
+mod drawers;
+mod ends;
 mod frames;
+mod guarded;
+mod parts;
 mod resets;
 mod runs;
+mod small_drawers;
 mod t_lent;
 mod tables;
 mod tally;
@@ -24,13 +32,15 @@ use std::{env, process};
 
 use tables::Pool;
 use tally::{has_every_branch_of_bad_words, has_every_branch_of_clock, Tally};
-use tally::{has_every_branch_of_turns, has_every_branch_of_wheel_calls};
+use tally::{
+    has_every_branch_of_drawers, has_every_branch_of_turns, has_every_branch_of_wheel_calls,
+};
 
 fn main() {
     let arguments: Vec<String> = env::args().skip(1).collect();
     let numbers: Option<Vec<u64>> = arguments.iter().map(|word| word.parse().ok()).collect();
-    let Some([seed, frames, states, calls, under, runs]) = numbers.as_deref() else {
-        eprintln!("usage: compare SEED FRAMES STATES CALLS UNDER RUNS");
+    let Some([seed, frames, states, calls, under, runs, drawers]) = numbers.as_deref() else {
+        eprintln!("usage: compare SEED FRAMES STATES CALLS UNDER RUNS DRAWERS");
         process::exit(2)
     };
     let mut tally = Tally::default();
@@ -43,6 +53,7 @@ fn main() {
     under_tables(&mut tally, &pool, *seed, *under);
     runs::by_t(&mut tally, &pool.t, *seed, *runs);
     runs::under_tables(&mut tally, &pool, *seed, *runs);
+    drawer_lists::of_all(&mut tally, *seed, *drawers);
     tally.print();
     let are_runs_whole = *runs == 0 || tally.has_every_end_of_runs();
     let are_bad_words_whole = *calls == 0 || has_every_branch_of_bad_words();
@@ -50,7 +61,9 @@ fn main() {
     let are_wheel_calls_whole = *calls == 0 || has_every_branch_of_wheel_calls();
     let are_turns_whole = *states == 0 || has_every_branch_of_turns();
     let is_wheel_whole = are_wheel_calls_whole && are_turns_whole;
-    let are_whole = are_runs_whole && are_bad_words_whole && is_clock_whole && is_wheel_whole;
+    let are_drawers_whole = *drawers == 0 || has_every_branch_of_drawers();
+    let are_calls_whole = are_bad_words_whole && is_clock_whole && is_wheel_whole;
+    let are_whole = are_runs_whole && are_calls_whole && are_drawers_whole;
     let is_good = tally.different == 0 && are_whole;
     process::exit(i32::from(!is_good));
 }

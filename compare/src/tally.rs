@@ -1,10 +1,14 @@
 //! What was compared, what differed, and what was met.
 
 use std::collections::BTreeMap;
-use std::fmt::{self, Display, Formatter};
 use std::io::{self, Write};
 
 use oracle::branches::{self, count_of, Branch, BRANCHES};
+
+use crate::ends::OF_RUNS;
+
+pub use crate::ends::End;
+pub use crate::parts::Part;
 
 /// Differences that are shown in full.
 const SHOWN: u64 = 5;
@@ -18,130 +22,6 @@ pub struct Tally {
     pub different: u64,
     /// Of each part, how often each end was met.
     ends: [BTreeMap<End, u64>; Part::ALL.len()],
-}
-
-/// How a call ends, in the order in which ends are shown.
-#[derive(Clone, Copy, PartialEq, Eq, PartialOrd, Ord)]
-pub enum End {
-    /// With 0 or the refusal; a run before any frame.
-    Answered(u32),
-    /// A run, before its limit.
-    Rests,
-    /// A run, with the last frame of its limit.
-    AtLimit,
-    /// A run, with the refusal of its first frame.
-    FirstRefused(u32),
-    /// A run, with the refusal of a later frame.
-    LaterRefused(u32),
-}
-
-impl From<u32> for End {
-    fn from(number: u32) -> End {
-        End::Answered(number)
-    }
-}
-
-impl End {
-    /// The number of the answer.
-    fn number(self) -> u32 {
-        match self {
-            End::Rests | End::AtLimit => 0,
-            End::Answered(number) | End::FirstRefused(number) | End::LaterRefused(number) => number,
-        }
-    }
-}
-
-impl Display for End {
-    fn fmt(&self, f: &mut Formatter) -> fmt::Result {
-        match self {
-            End::Answered(0) => write!(f, "accepted"),
-            End::Answered(number) => write!(f, "refused with {number}"),
-            End::Rests => write!(f, "rest, before their limit"),
-            End::AtLimit => write!(f, "end with the last frame of their limit"),
-            End::FirstRefused(number) => {
-                write!(f, "refused inside with {number}, at the first frame")
-            }
-            End::LaterRefused(number) => {
-                write!(f, "refused inside with {number}, at a later frame")
-            }
-        }
-    }
-}
-
-/// The ends that every kind of comparison of runs has to meet.
-const OF_RUNS: [End; 13] = [
-    End::Answered(1),
-    End::Answered(2),
-    End::Answered(3),
-    End::Answered(4),
-    End::Answered(5),
-    End::Answered(6),
-    End::Answered(9),
-    End::Rests,
-    End::AtLimit,
-    End::FirstRefused(8),
-    End::FirstRefused(12),
-    End::LaterRefused(3),
-    End::LaterRefused(8),
-];
-
-/// What is compared.
-#[derive(Clone, Copy)]
-pub enum Part {
-    Fresh,
-    Arbitrary,
-    Axis,
-    WheelLaw,
-    BadWords,
-    Resets,
-    Loads,
-    FreshUnder,
-    ArbitraryUnder,
-    StepsUnder,
-    TLent,
-    Runs,
-    RunsUnder,
-    RunsTLent,
-}
-
-impl Part {
-    const ALL: [Part; 14] = [
-        Part::Fresh,
-        Part::Arbitrary,
-        Part::Axis,
-        Part::WheelLaw,
-        Part::BadWords,
-        Part::Resets,
-        Part::Loads,
-        Part::FreshUnder,
-        Part::ArbitraryUnder,
-        Part::StepsUnder,
-        Part::TLent,
-        Part::Runs,
-        Part::RunsUnder,
-        Part::RunsTLent,
-    ];
-
-    pub fn name(self) -> &'static str {
-        match self {
-            Part::Fresh => "frames from fresh states",
-            Part::Arbitrary => "frames on arbitrary states",
-            Part::Axis => "axis calls",
-            Part::WheelLaw => {
-                "wheel answers of the library, judged by the law of which turns are taken"
-            }
-            Part::BadWords => "bad words of frames by themselves, and of runs",
-            Part::Resets => "resets, among frames and of arbitrary records",
-            Part::Loads => "loads of tables",
-            Part::FreshUnder => "frames from fresh states, under tables",
-            Part::ArbitraryUnder => "frames on arbitrary states, under tables",
-            Part::StepsUnder => "steps under tables",
-            Part::TLent => "frames and steps, T lent against no table",
-            Part::Runs => "runs",
-            Part::RunsUnder => "runs under tables",
-            Part::RunsTLent => "runs, T lent against no table",
-        }
-    }
 }
 
 impl Tally {
@@ -222,6 +102,11 @@ pub fn has_every_branch_of_wheel_calls() -> bool {
 /// Whether turns in frames were taken and left on every ground there is; says which is missing.
 pub fn has_every_branch_of_turns() -> bool {
     are_none(&unmet_of(branches::OF_TURNS))
+}
+
+/// Whether drawers were refused on every ground, and every way of a call was gone; says which is missing.
+pub fn has_every_branch_of_drawers() -> bool {
+    are_none(&unmet_of(branches::OF_DRAWERS))
 }
 
 /// Those of the branches that were not met, in words.

@@ -2,7 +2,13 @@
 
 use super::chains::{Chain, End, FREE};
 use super::{Fault, RECORD};
-use crate::branches::{met, met_if, Branch};
+use crate::branches::{met, met_if, Branch, BRANCHES};
+
+impl Fault {
+    pub fn in_words(self) -> &'static str {
+        BRANCHES[branch(self) as usize].1
+    }
+}
 
 /// Counts the grounds of a 13, and one that is alone.
 pub fn met_all(bytes: &[u8], found: &[Fault]) {
