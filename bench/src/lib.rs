@@ -118,7 +118,7 @@ const UNTOUCHED: u64 = 0x5eed_5eed_5eed_5eed;
 
 /// How far below this function a call reaches: it leaves its marks in what was filled before it.
 #[inline(never)]
-fn depth_of(call: impl FnOnce() -> u32) -> usize {
+pub fn depth_of(call: impl FnOnce() -> u32) -> usize {
     let here = stack_pointer();
     let filled = (here - (64 << 10)..here - 256).step_by(8);
     for place in filled.clone() {
