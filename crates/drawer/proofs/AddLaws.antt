@@ -17,10 +17,10 @@ use Rattle.drawer.specs.Search.{records, recordOf}
 use Rattle.drawer.specs.Order.{Ascends}
 use Rattle.drawer.specs.Calls.{width, stateIn, newIn}
 use Rattle.drawer.specs.Lists.{save, IsCall, state, Event, saved, keptWords, lastSaved, isHeld, heldIds}
+use Rattle.drawer.proofs.TimesLaws.{times-append, times-here, times-split, counts-no-other}
 use Rattle.drawer.proofs.Links.{Links, linkAfter}
 use Rattle.drawer.proofs.OrderLaws.{up-same, up-insert}
-use Rattle.drawer.proofs.ChainLaws.{times-append, times-here}
-use Rattle.drawer.proofs.SurgeryLaws.{chg, chg-here, chg-other, times-split, alone}
+use Rattle.drawer.proofs.SurgeryLaws.{chg, chg-here, chg-other, alone}
 use Rattle.drawer.proofs.DrawerLaws.{head-low}
 use Rattle.drawer.proofs.ViewLaws.{View}
 use Rattle.drawer.proofs.LookLaws.{absent-at, is-found}
@@ -79,10 +79,7 @@ module _ (n : ℕ) (s : List ℕ) (h : List Event) (e : Holds n s h) where
     out-new : (j r : ℕ) → j < 16 → 0 < times r (d2 j) → (r ≡ f → ⊥) → Dec (j ≡ x % 16) → 0 < times r (e .chains j)
     out-new j r l m away (yes z) =
         subst (λ (i : ℕ). 0 < times r (e .chains i)) (sym z)
-        (omega (arith, ap (times r) at-k, times-split r f a b, ap (times r) cut, subst (λ (i : ℕ). 0 < times r (d2 i)) z m, zero-of))
-      where
-        zero-of : _≡_ {A = ℕ} (cond (eqb r f) 1 0) 0
-        zero-of = rw (ne-eqb r f away)
+        (omega (arith, ap (times r) at-k, times-split r f a b, ap (times r) cut, subst (λ (i : ℕ). 0 < times r (d2 i)) z m, counts-no-other r f away))
     out-new j r l m away (no z) = subst (λ (i : List ℕ). 0 < times r i) (at-j j l z) m
 
     f-id : idIn width (wordAt t) f ≡ x

@@ -2,13 +2,14 @@
 use mathlib.Core.Path.{_≡_, refl, sym, _∙_, subst}
 use mathlib.Core.Bool.{Bool, true, false, cond}
 use mathlib.Core.List.{List, [], _∷_, _++_}
-use Prim.Native.Nat.{ℕ, zero, suc, _+_, _*_, _<_, _≤_}
+use Prim.Native.Nat.{ℕ, zero, suc, _*_, _<_, _≤_}
 use native.Mathlib.Nat.{not-suc-le-zero}
 use native.Mathlib.Omega.{arith}
 use lib.Dec.{eqb}
 use lib.ListN.{length}
 use borrow.Author.Tests.{eq-eqb, ne-eqb, eqb-true, eqb-false}
 use Rattle.drawer.specs.Chains.{walk, times}
+use Rattle.drawer.proofs.TimesLaws.{times-here, times-more}
 use Rattle.drawer.proofs.Links.{Links, linkAfter}
 use Rattle.drawer.proofs.WidthLaws.{same-record}
 
@@ -82,19 +83,6 @@ link-ends width w p [] h = h
 link-ends width w p (r ∷ a) h = link-ends width w (width * r) a (h .2)
 
 -- ---- how often a record stands in a list
-pub times-append : (r : ℕ) (a b : List ℕ) → times r (a ++ b) ≡ times r a + times r b
-unfolding times
-times-append r [] b = omega arith
-times-append r (x ∷ a) b = omega (arith, times-append r a b)
-
-pub times-here : (r : ℕ) (l : List ℕ) → 0 < times r (r ∷ l)
-unfolding times
-times-here r l = rw (eq-eqb r r refl) (omega arith)
-
-pub times-more : (r x : ℕ) (l : List ℕ) → times r l ≤ times r (x ∷ l)
-unfolding times
-times-more r x l = omega arith
-
 -- ---- from "each record at most once" to Front and Keeps
 pub keeps-of : (width : ℕ) (w v : ℕ → ℕ) (l : List ℕ) → ((r : ℕ) → 0 < times r l → v (width * r) ≡ w (width * r)) → Keeps width w v l
 keeps-of width w v [] same = tt

@@ -10,21 +10,15 @@ use lib.Dec.{eqb, ltb}
 use lib.ListN.{length, length-append}
 use borrow.Author.Tests.{eq-eqb, ne-eqb, eqb-true, eqb-false, ltb-true, lt-ltb}
 use Rattle.drawer.specs.Chains.{times}
+use Rattle.drawer.proofs.TestLaws.{and-left, and-right, and-both, clash}
+use Rattle.drawer.proofs.TimesLaws.{times-here, times-more}
 use Rattle.drawer.proofs.Links.{Links}
 use Rattle.drawer.specs.Drawer.{idIn, hasId, noIdTwice, underHead, isState, areStates}
 use Rattle.drawer.specs.Tours.{suits, isPlaced, tourFrom, hasFrom, twiceFrom}
 use Rattle.drawer.specs.Search.{isRecord}
 use Rattle.drawer.specs.declared.tour.Tour.{Tour}
-use Rattle.drawer.proofs.ChainLaws.{links-same, times-here, times-more}
-use Rattle.drawer.proofs.SpreadLaws.{and-left, and-right, and-both}
+use Rattle.drawer.proofs.ChainLaws.{links-same}
 use Rattle.drawer.proofs.SurgeryLaws.{below}
-
-pub false-of : (b : Bool) → (b ≡ true → ⊥) → b ≡ false
-false-of true no-way = absurd (no-way refl)
-false-of false no-way = refl
-
-pub clash : (b : Bool) → b ≡ true → b ≡ false → ⊥
-clash b p q = let z : _≡_ {A = ℕ} 0 1 = cc in omega arith
 
 -- ---- lists
 abbrev pub lastOf : ℕ → List ℕ → ℕ

@@ -9,11 +9,11 @@ use lib.ListN.{length}
 use borrow.Author.Tests.{eqb-true}
 use Rattle.words.specs.Words.{wordAt}
 use Rattle.drawer.specs.Chains.{walk, times}
+use Rattle.drawer.proofs.TestLaws.{and-left, and-right}
+use Rattle.drawer.proofs.TimesLaws.{times-append, times-here, times-more}
 use Rattle.drawer.proofs.Links.{Links, linkAfter}
 use Rattle.drawer.specs.Drawer.{idIn, isWhole, isFilled, isDrawer}
 use Rattle.drawer.specs.Search.{seek, records, recordOf}
-use Rattle.drawer.proofs.ChainLaws.{times-append, times-here, times-more}
-use Rattle.drawer.proofs.SpreadLaws.{and-left, and-right}
 use Rattle.drawer.proofs.CheckLaws.{Below, placed-below}
 use Rattle.drawer.proofs.PassedLaws.{Fine, filled-fine, of-below}
 use Rattle.drawer.proofs.SeekLaws.{Stopped, stopped, stopped-at}

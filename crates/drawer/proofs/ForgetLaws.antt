@@ -16,11 +16,11 @@ use Rattle.drawer.specs.Search.{records}
 use Rattle.drawer.specs.Order.{Ascends}
 use Rattle.drawer.specs.Calls.{width, stateIn, goneFrom}
 use Rattle.drawer.specs.Lists.{nothing, Event, forgot, lastSaved, isHeld, heldIds}
+use Rattle.drawer.proofs.TimesLaws.{times-append, times-here, times-split, counts-no-other}
 use Rattle.drawer.proofs.Links.{linkAfter}
 use Rattle.drawer.proofs.OrderLaws.{up-same, up-remove}
-use Rattle.drawer.proofs.ChainLaws.{times-append, times-here}
 use Rattle.drawer.proofs.SpreadLaws.{spread-long}
-use Rattle.drawer.proofs.SurgeryLaws.{chg, chg-here, chg-other, times-split, alone}
+use Rattle.drawer.proofs.SurgeryLaws.{chg, chg-here, chg-other, alone}
 use Rattle.drawer.proofs.DrawerLaws.{head-low}
 use Rattle.drawer.proofs.IdLaws.{has-same, twice-remove, right-of}
 use Rattle.drawer.proofs.ViewLaws.{View}
@@ -57,10 +57,7 @@ module _ (n : ℕ) (s : List ℕ) (h : List Event) (e : Holds n s h) where
     in-left : (j r : ℕ) → j < 16 → 0 < times r (e .chains j) → (r ≡ f → ⊥) → Dec (j ≡ x % 16) → 0 < times r (g2 j)
     in-left j r l m away (yes z) =
         subst (λ (i : ℕ). 0 < times r (g2 i)) (sym z)
-        (omega (arith, ap (times r) left-k, times-split r f a b, ap (times r) cut, subst (λ (i : ℕ). 0 < times r (e .chains i)) z m, zero-of))
-      where
-        zero-of : _≡_ {A = ℕ} (cond (eqb r f) 1 0) 0
-        zero-of = rw (ne-eqb r f away)
+        (omega (arith, ap (times r) left-k, times-split r f a b, ap (times r) cut, subst (λ (i : ℕ). 0 < times r (e .chains i)) z m, counts-no-other r f away))
     in-left j r l m away (no z) = subst (λ (i : List ℕ). 0 < times r i) (sym (left-j j l z)) m
 
     out-left : (j r : ℕ) → j < 16 → 0 < times r (g2 j) → Dec (j ≡ x % 16) → (0 < times r (e .chains j)) × (r ≡ f → ⊥)

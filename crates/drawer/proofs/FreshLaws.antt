@@ -13,6 +13,8 @@ use lib.Seq.{getD-append-add}
 use borrow.Author.Tests.{eq-eqb, ne-eqb, lt-ltb, le-ltb}
 use Rattle.words.specs.Words.{wordAt, bytesOf}
 use Rattle.drawer.specs.Chains.{times}
+use Rattle.drawer.proofs.TestLaws.{lt-or}
+use Rattle.drawer.proofs.TimesLaws.{times-nil, times-other}
 use Rattle.drawer.proofs.Links.{Links}
 use Rattle.drawer.specs.Chains.{flat}
 use Rattle.drawer.specs.Drawer.{isChain, underHead, noIdTwice, areStates}
@@ -22,8 +24,6 @@ use Rattle.drawer.proofs.SpreadLaws.{Spread}
 use Rattle.words.proofs.KeptLaws.{length-bytes}
 use Rattle.drawer.proofs.FillLaws.{fresh-long}
 use Rattle.words.proofs.ReadLaws.{read-back}
-use Rattle.drawer.proofs.SeekLaws.{times-nil, times-other}
-use Rattle.drawer.proofs.NewLaws.{lt-or}
 use Rattle.drawer.proofs.ViewLaws.{View}
 
 -- m records from r on

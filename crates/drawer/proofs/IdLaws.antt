@@ -9,9 +9,8 @@ use borrow.Author.Tests.{eq-eqb, ne-eqb, eqb-false}
 use Rattle.drawer.specs.Chains.{times}
 use Rattle.drawer.specs.Drawer.{idIn, hasId, noIdTwice, underHead, isState, areStates, isChain}
 use Rattle.records.proofs.TidiedLaws.{damaged-same}
-use Rattle.drawer.proofs.ChainLaws.{times-here, times-more}
-use Rattle.drawer.proofs.SpreadLaws.{and-left, and-right, and-both}
-use Rattle.drawer.proofs.CheckLaws.{clash}
+use Rattle.drawer.proofs.TestLaws.{and-left, and-right, and-both, clash}
+use Rattle.drawer.proofs.TimesLaws.{times-here, times-more}
 
 -- ---- the words of a record
 pub id-same : (width : ℕ) (w v : ℕ → ℕ) (r : ℕ) → v (width * r + 1) ≡ w (width * r + 1) → v (width * r + 2) ≡ w (width * r + 2) → idIn width v r ≡ idIn width w r

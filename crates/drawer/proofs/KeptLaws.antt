@@ -1,28 +1,27 @@
 -- A drawer stays a drawer: a new record put in, one rewritten, one forgotten. c are the drawer's chains as lists of records.
 use mathlib.Core.Path.{_≡_, refl, sym, ap, _∙_, subst}
-use mathlib.Core.Bool.{true, false, cond, not}
+use mathlib.Core.Bool.{true, false, not}
 use mathlib.Core.List.{List, [], _∷_, _++_}
 use mathlib.Core.Logic.{_⊎_, inl, inr, ⊎-elim}
 use Prim.Native.Nat.{ℕ, suc, _+_, _*_, _%_, _<_, _≤_}
 use native.Mathlib.Nat.{zero-add, add-zero}
 use native.Mathlib.Omega.{arith}
 use native.Mathlib.Decide.{ℕ-discrete}
-use lib.Dec.{eqb}
 use lib.ListN.{length, getD}
-use borrow.Author.Tests.{eq-eqb}
 use Rattle.words.specs.Words.{wordAt, putAt}
 use Rattle.drawer.specs.Chains.{times}
+use Rattle.drawer.proofs.TestLaws.{and-left, and-right, and-both, lt-or}
+use Rattle.drawer.proofs.TimesLaws.{times-append, times-here, times-more, times-split, times-mid, counts-itself}
 use Rattle.drawer.proofs.Links.{Links, linkAfter}
 use Rattle.drawer.specs.Drawer.{idIn, hasId, isState, areStates, isChain, recordsOf}
 use Rattle.drawer.specs.Search.{records}
 use Rattle.records.specs.Record.{isDamaged}
 use Rattle.records.proofs.TidiedLaws.{damaged-same}
 use Rattle.drawer.specs.Calls.{width, newIn, goneFrom}
-use Rattle.drawer.proofs.ChainLaws.{times-append, times-here, times-more}
-use Rattle.drawer.proofs.SpreadLaws.{and-left, and-right, and-both, Spread}
-use Rattle.drawer.proofs.SurgeryLaws.{chg, chg-here, chg-other, times-mid, times-split, pos, below, single, alone, saved, forgotten, kept}
+use Rattle.drawer.proofs.SpreadLaws.{Spread}
+use Rattle.drawer.proofs.SurgeryLaws.{chg, chg-here, chg-other, pos, below, single, alone, saved, forgotten, kept}
 use Rattle.drawer.proofs.ViewLaws.{View, link-form, link-value}
-use Rattle.drawer.proofs.NewLaws.{lt-or, new-length, new-link, new-next, new-low, new-high, new-state, new-free, new-other, over-length, over-state, over-other, gone-length, gone-free, gone-next, gone-link, gone-other}
+use Rattle.drawer.proofs.NewLaws.{new-length, new-link, new-next, new-low, new-high, new-state, new-free, new-other, over-length, over-state, over-other, gone-length, gone-free, gone-next, gone-link, gone-other}
 use Rattle.drawer.proofs.IdLaws.{id-same, id-is, state-same, has-same, chain-same, chain-insert, chain-remove, right-of, of-right, right-ids}
 
 -- a word of the state in record r
@@ -259,10 +258,7 @@ module _ (s : List ℕ) (c : ℕ → List ℕ) (v : View width s c) where
 
     pub left-away : (r : ℕ) → 0 < times r (a ++ b) → r ≡ f → ⊥
     left-away r n e =
-        omega (arith, subst (λ (i : ℕ). 0 < times i (a ++ b)) e n, times-append f a b, times-split f f a b, here f, ap (times f) cut, single width (wordAt s) (records width s) c (v .spread) k f (omega arith))
-      where
-        here : (i : ℕ) → _≡_ {A = ℕ} (cond (eqb i i) 1 0) 1
-        here i = rw (eq-eqb i i refl)
+        omega (arith, subst (λ (i : ℕ). 0 < times i (a ++ b)) e n, times-append f a b, times-split f f a b, counts-itself f, ap (times f) cut, single width (wordAt s) (records width s) c (v .spread) k f (omega arith))
 
     g-chains : (j : ℕ) → j < 16 → Dec (j ≡ k) → isChain width (wordAt u) j (chg (chg c k (a ++ b)) 16 (f ∷ c 16) j) ≡ true
     g-chains j h (no e) =

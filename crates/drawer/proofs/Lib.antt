@@ -1,5 +1,7 @@
 pub mod WidthLaws
 pub mod Links
+pub mod TestLaws
+pub mod TimesLaws
 pub mod ChainLaws
 pub mod SpreadLaws
 pub mod SurgeryLaws

@@ -16,9 +16,9 @@ use Rattle.drawer.specs.Search.{isStop, records, recordOf}
 use Rattle.drawer.specs.Order.{Ascends}
 use Rattle.drawer.specs.Calls.{width, stateIn, newIn, goneFrom, freshTo, layOn, Left}
 use Rattle.drawer.specs.Lists.{Call, save, load, forget, IsCall, AreCalls, state, Answer, answerOn, leftOn, answersOn, Event, keptWords, lastSaved, isHeld, heldIds, given, plain, answerBy, eventsBy, answersBy, AllDrawerLists, AllAscend, leftAfter}
+use Rattle.drawer.proofs.TimesLaws.{times-append, times-nil}
 use Rattle.drawer.proofs.OrderLaws.{up-rest}
-use Rattle.drawer.proofs.ChainLaws.{times-append}
-use Rattle.drawer.proofs.SeekLaws.{Stopped, stopped-at, times-nil}
+use Rattle.drawer.proofs.SeekLaws.{Stopped, stopped-at}
 use Rattle.drawer.proofs.DrawerLaws.{head-low}
 use Rattle.drawer.proofs.SizeLaws.{whole-parts}
 use Rattle.drawer.proofs.ViewLaws.{view-walk}

@@ -9,12 +9,12 @@ use lib.Dec.{eqb}
 use borrow.Author.Tests.{ne-eqb, eqb-true, eqb-false}
 use Rattle.words.specs.Words.{wordAt}
 use Rattle.drawer.specs.Chains.{walk, times}
+use Rattle.drawer.proofs.TestLaws.{and-left, and-right}
+use Rattle.drawer.proofs.TimesLaws.{times-here, times-more, times-nil, times-other}
 use Rattle.drawer.proofs.Links.{Links}
 use Rattle.drawer.specs.Drawer.{idIn, hasId, noIdTwice}
 use Rattle.drawer.specs.Search.{isStop, records, recordOf}
-use Rattle.drawer.proofs.ChainLaws.{times-here, times-more}
-use Rattle.drawer.proofs.SpreadLaws.{and-left, and-right}
-use Rattle.drawer.proofs.SeekLaws.{times-nil, times-other, Stopped, stopped-at, stopped-none}
+use Rattle.drawer.proofs.SeekLaws.{Stopped, stopped-at, stopped-none}
 use Rattle.drawer.proofs.DrawerLaws.{parts, head-low, search-stops}
 use Rattle.drawer.proofs.IdLaws.{right-of, or-left, or-tail, or-false, of-not}
 use Rattle.drawer.proofs.ViewLaws.{View, view-walk, drawer-of}

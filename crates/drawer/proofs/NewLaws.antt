@@ -2,7 +2,7 @@
 use mathlib.Core.Path.{_≡_, sym, ap, _∙_}
 use mathlib.Core.List.{List, [], _∷_}
 use mathlib.Core.Logic.{_⊎_, inl, inr, ⊎-elim}
-use Prim.Native.Nat.{ℕ, zero, suc, _+_, _*_, _/_, _%_, _<_, _≤_}
+use Prim.Native.Nat.{ℕ, _+_, _*_, _/_, _%_, _<_, _≤_}
 use native.Mathlib.Nat.{add-zero}
 use native.Mathlib.Omega.{arith}
 use lib.ListN.{length, getD}
@@ -10,12 +10,7 @@ use Rattle.words.specs.Words.{wordAt, putAt}
 use Rattle.drawer.specs.Calls.{width, newIn, goneFrom, freeWords}
 use Rattle.words.proofs.KeptLaws.{put-length, kept-word}
 use Rattle.words.proofs.ReadLaws.{written-word}
-
-pub lt-or : (a b : ℕ) → (a < b) ⊎ (b ≤ a)
-lt-or zero zero = inr (omega arith)
-lt-or zero (suc b) = inl (omega arith)
-lt-or (suc a) zero = inr (omega arith)
-lt-or (suc a) (suc b) = ⊎-elim (λ h. inl (omega arith)) (λ h. inr (omega arith)) (lt-or a b)
+use Rattle.drawer.proofs.TestLaws.{lt-or}
 
 beside : (y p : ℕ) → (y ≡ p → ⊥) → (y < p) ⊎ (p + 1 ≤ y)
 beside y p e = ⊎-elim (λ h. inl h) (λ h. inr (omega arith)) (lt-or y p)

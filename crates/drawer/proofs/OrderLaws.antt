@@ -1,21 +1,19 @@
 -- Ids that ascend along a chain: where they stay, where a record is put in, and where one is taken out.
 use mathlib.Core.Path.{_≡_, refl, sym, subst}
-use mathlib.Core.Bool.{Bool, true, false, cond, _||_}
+use mathlib.Core.Bool.{Bool, true, false, _||_}
 use mathlib.Core.Logic.{_⊎_, inr, ⊎-elim}
 use mathlib.Core.List.{List, [], _∷_, _++_}
 use Prim.Native.Nat.{ℕ, _<_}
 use native.Mathlib.Omega.{arith}
 use native.Mathlib.Decide.{ℕ-discrete}
 use lib.Dec.{eqb, ltb}
-use borrow.Author.Tests.{eq-eqb, ne-eqb, lt-ltb}
+use borrow.Author.Tests.{eq-eqb, lt-ltb}
 use Rattle.drawer.specs.Chains.{times}
 use Rattle.drawer.specs.Drawer.{idIn}
 use Rattle.drawer.specs.Order.{Ascends}
-use Rattle.drawer.proofs.ChainLaws.{times-here, times-more}
-use Rattle.drawer.proofs.SpreadLaws.{and-both}
-use Rattle.drawer.proofs.SurgeryLaws.{times-split}
+use Rattle.drawer.proofs.TestLaws.{and-both}
+use Rattle.drawer.proofs.TimesLaws.{times-here, times-more, times-nil, times-other, times-split, counts-no-other}
 use Rattle.drawer.proofs.CheckLaws.{ascends}
-use Rattle.drawer.proofs.SeekLaws.{times-nil, times-other}
 
 pub up-same : (width : ℕ) (w v : ℕ → ℕ) (l : List ℕ) → ((r : ℕ) → 0 < times r l → idIn width v r ≡ idIn width w r) → Ascends width w l → Ascends width v l
 up-same width w v [] same h = tt
@@ -25,10 +23,7 @@ up-same width w v (r ∷ l) same h = (
 )
 
 split-off : (q f : ℕ) (a b : List ℕ) → (q ≡ f → ⊥) → 0 < times q (a ++ (f ∷ b)) → 0 < times q (a ++ b)
-split-off q f a b away m = omega (arith, m, times-split q f a b, zero-of)
-  where
-    zero-of : _≡_ {A = ℕ} (cond (eqb q f) 1 0) 0
-    zero-of = rw (ne-eqb q f away)
+split-off q f a b away m = omega (arith, m, times-split q f a b, counts-no-other q f away)
 
 pub up-insert : (width : ℕ) (w : ℕ → ℕ) (f : ℕ) (a b : List ℕ) → Ascends width w (a ++ b) → ((q : ℕ) → 0 < times q a → idIn width w q < idIn width w f) → ((q : ℕ) → 0 < times q b → idIn width w f < idIn width w q)
     → Ascends width w (a ++ (f ∷ b))
@@ -49,10 +44,7 @@ up-remove width w f (r ∷ a) b h = ((λ q m. h .0 q (omega (arith, m, times-spl
 -- above the first of the rest, above all of it
 pub up-rest : (width : ℕ) (w : ℕ → ℕ) (x : ℕ) (a b : List ℕ) → Ascends width w (a ++ b) → ((r : ℕ) (d : List ℕ) → b ≡ r ∷ d → x < idIn width w r) → (q : ℕ) → 0 < times q b → x < idIn width w q
 up-rest width w x (y ∷ a) b h first q m = up-rest width w x a b (h .1) first q m
-up-rest width w x [] [] h first q m = absurd (omega (arith, m, none q))
-  where
-    none : (i : ℕ) → times i [] ≡ 0
-    none i = times-nil i
+up-rest width w x [] [] h first q m = absurd (omega (arith, m, times-nil q))
 up-rest width w x [] (r ∷ d) h first q m = go (ℕ-discrete q r)
   where
     go : Dec (q ≡ r) → x < idIn width w q

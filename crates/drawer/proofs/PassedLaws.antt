@@ -12,16 +12,18 @@ use lib.ListN.{length, length-append, getD, set, length-set, replicate}
 use lib.Seq.{getD-set-same, getD-set-other}
 use borrow.Author.Tests.{eq-eqb, ne-eqb, eqb-false}
 use Rattle.drawer.specs.Chains.{walk, times}
+use Rattle.drawer.proofs.TestLaws.{and-left, and-right, and-both, false-of, clash}
+use Rattle.drawer.proofs.TimesLaws.{times-append, times-here, times-more, times-nil, times-other}
 use Rattle.drawer.proofs.Links.{Links}
 use Rattle.drawer.specs.Chains.{flat}
 use Rattle.drawer.specs.Drawer.{chainOf, isSpread, noIdTwice, underHead, areStates, isChain, areChains, isFilled}
 use Rattle.drawer.specs.Tours.{tourFrom, amongFirst, isMet, isSingle}
 use Rattle.drawer.specs.declared.tour.Tour.{Tour}
-use Rattle.drawer.proofs.ChainLaws.{links-walk, times-append, times-here, times-more}
-use Rattle.drawer.proofs.SpreadLaws.{and-left, and-right, and-both, flat-long, Spread, spread-of, spread-long, is-spread, sum-all, sum-le-each}
+use Rattle.drawer.proofs.ChainLaws.{links-walk}
+use Rattle.drawer.proofs.SpreadLaws.{flat-long, Spread, spread-of, spread-long, is-spread, sum-all, sum-le-each}
 use Rattle.drawer.proofs.SurgeryLaws.{below, alone}
 use Rattle.drawer.proofs.TourLaws.{among-some, among-found}
-use Rattle.drawer.proofs.CheckLaws.{false-of, clash, lastOf, last-member, links-once, meet-last, made, ascends, Placed, tour-of, tour-found, asc-twice, Below, twice-of, placed-below, placed-chain, chain-placed, free-placed}
+use Rattle.drawer.proofs.CheckLaws.{lastOf, last-member, links-once, meet-last, made, ascends, Placed, tour-of, tour-found, asc-twice, Below, twice-of, placed-below, placed-chain, chain-placed, free-placed}
 
 pub record Fine (width : ℕ) (w : ℕ → ℕ) (n k : ℕ) (l : List ℕ) : Type 0 where
   pub links : Links width w k l
@@ -64,21 +66,13 @@ of-below n (x ∷ l) r b h = go (ℕ-discrete r x) (λ k. of-below n l r (b .1) 
     go (yes e) rest = omega (arith, b .0)
     go (no e) rest = rest (omega (arith, subst (λ (t : Bool). 0 < cond t 1 0 + times r l) (ne-eqb r x e) h))
 
-nil : (r : ℕ) → times r [] ≡ 0
-unfolding times
-nil r = refl
-
-other : (x y : ℕ) (l : List ℕ) → (x ≡ y → ⊥) → times x (y ∷ l) ≡ times x l
-unfolding times
-other x y l e = rw (ne-eqb x y e) (omega arith)
-
 some-of : (width : ℕ) (w : ℕ → ℕ) (q : ℕ) (l : List ℕ) (x : ℕ) → Links width w q l → 0 < times x l → 0 < x
-some-of width w q [] x g z = absurd (omega (arith, nil x))
+some-of width w q [] x g z = absurd (omega (arith, times-nil x))
 some-of width w q (y ∷ l) x g z = pick (ℕ-discrete x y) (λ k. some-of width w (width * y) l x (g .2) k)
   where
     pick : Dec (x ≡ y) → (0 < times x l → 0 < x) → 0 < x
     pick (yes e) rest = omega (arith, g .1)
-    pick (no e) rest = rest (omega (arith, other x y l e))
+    pick (no e) rest = rest (omega (arith, times-other x y l e))
 
 is-met : (lasts : List ℕ) (k x i : ℕ) → i < k → getD lasts i 0 ≡ x → 0 < x → isMet lasts k x ≡ true
 unfolding isMet

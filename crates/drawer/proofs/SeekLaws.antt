@@ -9,22 +9,15 @@ use lib.Dec.{ltb}
 use lib.ListN.{length, getD, take, drop, length-drop, set}
 use lib.Seq.{ext-getD, getD-take, getD-drop, length-take-le, getD-set-same, getD-set-other}
 use native.Mathlib.Decide.{ℕ-discrete}
-use borrow.Author.Tests.{lt-ltb, ne-eqb}
+use borrow.Author.Tests.{lt-ltb}
 use Rattle.drawer.specs.Chains.{times}
+use Rattle.drawer.proofs.TestLaws.{and-both}
+use Rattle.drawer.proofs.TimesLaws.{times-append, times-here, times-nil, times-other}
 use Rattle.drawer.proofs.Links.{Links, linkAfter}
-use Rattle.drawer.proofs.ChainLaws.{link-ends, link-names, times-append, times-here}
-use Rattle.drawer.proofs.SpreadLaws.{and-both}
+use Rattle.drawer.proofs.ChainLaws.{link-ends, link-names}
 use Rattle.drawer.specs.Search.{isRecord}
 use Rattle.drawer.specs.Search.{seek}
 use Rattle.drawer.proofs.CheckLaws.{Below}
-
-pub times-nil : (r : ℕ) → times r [] ≡ 0
-unfolding times
-times-nil r = refl
-
-pub times-other : (x y : ℕ) (l : List ℕ) → (x ≡ y → ⊥) → times x (y ∷ l) ≡ times x l
-unfolding times
-times-other x y l e = rw (ne-eqb x y e) (omega arith)
 
 some-mid : (width : ℕ) (w : ℕ → ℕ) (p r : ℕ) (a b : List ℕ) → Links width w p (a ++ (r ∷ b)) → 0 < r
 some-mid width w p r [] b h = h .1

@@ -1,6 +1,6 @@
 -- The 17 chains together are the records 1 to n - 1, each once: as a test, and as what the laws use; and what a few writes of links do to them.
 use mathlib.Core.Path.{_≡_, refl, sym, ap, _∙_}
-use mathlib.Core.Bool.{Bool, true, false, cond, _&&_}
+use mathlib.Core.Bool.{true, cond}
 use mathlib.Core.List.{List, [], _∷_, _++_}
 use mathlib.Core.Logic.{_⊎_, inl, inr, ⊎-elim}
 use Prim.Native.Nat.{ℕ, zero, suc, _+_, _-_, _<_, _≤_}
@@ -11,23 +11,14 @@ use lib.Dec.{eqb}
 use lib.ListN.{length, length-append}
 use borrow.Author.Tests.{eq-eqb, ne-eqb, eqb-true}
 use Rattle.drawer.specs.Chains.{walk, times}
+use Rattle.drawer.proofs.TestLaws.{and-left, and-right, and-both, lt-or}
+use Rattle.drawer.proofs.TimesLaws.{times-append, times-here, times-more}
 use Rattle.drawer.proofs.Links.{Links}
 use Rattle.drawer.specs.Chains.{flat}
 use Rattle.drawer.specs.Drawer.{eachOnce, chainOf, isSpread}
-use Rattle.drawer.proofs.ChainLaws.{links-walk, walk-links, times-append, times-here, times-more}
+use Rattle.drawer.proofs.ChainLaws.{links-walk, walk-links}
 
 -- ---- tests
-pub and-left : (a b : Bool) → a && b ≡ true → a ≡ true
-and-left true b e = refl
-and-left false b e = e
-
-pub and-right : (a b : Bool) → a && b ≡ true → b ≡ true
-and-right true b e = e
-and-right false b e = absurd (let z : _≡_ {A = ℕ} 0 1 = cc in omega arith)
-
-pub and-both : (a b : Bool) → a ≡ true → b ≡ true → a && b ≡ true
-and-both a b p q = rw (p, q)
-
 -- ---- chains one after the other
 pub flat-same : (c d : ℕ → List ℕ) (m : ℕ) → ((k : ℕ) → k < m → c k ≡ d k) → flat c m ≡ flat d m
 unfolding flat
@@ -120,12 +111,6 @@ sum-in y (suc m) some fits = go (ℕ-discrete y (suc m)) (λ l. sum-in y m some 
 sum-le : (y m : ℕ) → sumTo (y ∷ []) m ≤ 1
 sum-le y m = go (ℕ-discrete y 0) (lt-or m y)
   where
-    lt-or : (a b : ℕ) → (a < b) ⊎ (b ≤ a)
-    lt-or zero zero = inr (omega arith)
-    lt-or zero (suc b) = inl (omega arith)
-    lt-or (suc a) zero = inr (omega arith)
-    lt-or (suc a) (suc b) = ⊎-elim (λ h. inl (omega arith)) (λ h. inr (omega arith)) (lt-or a b)
-
     go : Dec (y ≡ 0) → (m < y) ⊎ (y ≤ m) → sumTo (y ∷ []) m ≤ 1
     go (yes e) h = omega (arith, sum-out y m (inl e))
     go (no e) (inl h) = omega (arith, sum-out y m (inr h))
@@ -205,12 +190,6 @@ spread-of width w n some e = record {
 
     once : (r : ℕ) → 0 < r → r ≤ n - 1 → times r (flat (chainOf width w n) 17) ≡ 1
     once r h k = each-once (flat (chainOf width w n) 17) (n - 1) r (and-right (eqb (length (flat (chainOf width w n) 17)) (n - 1)) (eachOnce (flat (chainOf width w n) 17) (n - 1)) e) h k
-
-    lt-or : (a b : ℕ) → (a < b) ⊎ (b ≤ a)
-    lt-or zero zero = inr (omega arith)
-    lt-or zero (suc b) = inl (omega arith)
-    lt-or (suc a) zero = inr (omega arith)
-    lt-or (suc a) (suc b) = ⊎-elim (λ h. inl (omega arith)) (λ h. inr (omega arith)) (lt-or a b)
 
     inside-0 : (r : ℕ) → 0 < times r (flat (chainOf width w n) 17) → Dec (r ≡ 0) → 0 < r
     inside-0 r h (yes z) = absurd (omega (arith, long, sum-beside (flat (chainOf width w n) 17) (n - 1) r (inl z), sum-once (flat (chainOf width w n) 17) (n - 1) once))

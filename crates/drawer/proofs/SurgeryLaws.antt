@@ -8,9 +8,10 @@ use native.Mathlib.Decide.{ℕ-discrete}
 use lib.Dec.{eqb}
 use borrow.Author.Tests.{eq-eqb, ne-eqb}
 use Rattle.drawer.specs.Chains.{times}
+use Rattle.drawer.proofs.TimesLaws.{times-here, times-append, times-more, times-one, times-split, times-mid, counts-itself}
 use Rattle.drawer.proofs.Links.{Links, linkAfter}
 use Rattle.drawer.specs.Chains.{flat}
-use Rattle.drawer.proofs.ChainLaws.{Front, Keeps, frame, joined, insert, remove, times-append, times-here, times-more, keeps-of, apart-after, front-of}
+use Rattle.drawer.proofs.ChainLaws.{Front, Keeps, frame, joined, insert, remove, keeps-of, apart-after, front-of}
 use Rattle.drawer.proofs.WidthLaws.{same-record, past-heads}
 use Rattle.drawer.proofs.SpreadLaws.{Spread, flat-times, flat-two, flat-change}
 
@@ -23,16 +24,6 @@ chg-here c k l = rw (eq-eqb k k refl)
 
 pub chg-other : (c : ℕ → List ℕ) (k : ℕ) (l : List ℕ) (j : ℕ) → (j ≡ k → ⊥) → chg c k l j ≡ c j
 chg-other c k l j off = rw (ne-eqb j k off)
-
-times-one : (r f : ℕ) (l : List ℕ) → times r (f ∷ l) ≡ cond (eqb r f) 1 0 + times r l
-unfolding times
-times-one r f l = refl
-
-pub times-split : (r f : ℕ) (a b : List ℕ) → times r (a ++ (f ∷ b)) ≡ cond (eqb r f) 1 0 + times r (a ++ b)
-times-split r f a b = omega (arith, times-append r a (f ∷ b), times-append r a b, times-one r f b)
-
-pub times-mid : (f : ℕ) (a b : List ℕ) → 0 < times f (a ++ (f ∷ b))
-times-mid f a b = omega (arith, times-append f a (f ∷ b), times-here f b)
 
 module _ (width : ℕ) (w : ℕ → ℕ) (n : ℕ) (c : ℕ → List ℕ) (s : Spread width w n c) where
   at-most : (r : ℕ) → times r (flat c 17) ≤ 1
@@ -155,14 +146,11 @@ module _ (width : ℕ) (w : ℕ → ℕ) (n : ℕ) (c : ℕ → List ℕ) (s : S
       (the-rest v k f a b low cut heads recs b (λ r x. x) (λ r x e. clash k r (omega arith) (λ z. omega arith) (in-rest v k f a b low cut heads recs r x) e)))
       (joined width w v (width * f) 16 d (free-links .2) head
       (the-other v k f a b low cut heads recs 16 d (omega arith) (λ z. omega arith) (λ r x. in-free r x)
-      (λ r x e. omega (arith, single width w n c s 16 f (omega arith), ap (times f) free, times-one f f d, here f, ap (λ (i : ℕ). times i d) e))))
+      (λ r x e. omega (arith, single width w n c s 16 f (omega arith), ap (times f) free, times-one f f d, counts-itself f, ap (λ (i : ℕ). times i d) e))))
       (λ j h away. other-links v k f a b low cut heads recs j h away (λ r x e. clash j r (omega arith) (λ z. omega arith) x e))
       low)
       (λ r. omega (arith, two k r (a ++ (f ∷ b)) d low, ap (times r) cut, ap (times r) free, times-split r f a b, times-one r f d))
     where
-      here : (i : ℕ) → _≡_ {A = ℕ} (cond (eqb i i) 1 0) 1
-      here i = rw (eq-eqb i i refl)
-
       free-f : 0 < times f (c 16)
       free-f = subst (λ (l : List ℕ). 0 < times f l) (sym free) (times-here f d)
 
@@ -196,14 +184,11 @@ module _ (width : ℕ) (w : ℕ → ℕ) (n : ℕ) (c : ℕ → List ℕ) (s : S
       low)
       (λ r. omega (arith, two k r (a ++ b) (f ∷ c 16) low, ap (times r) cut, times-split r f a b, times-one r f (c 16)))
     where
-      here : (i : ℕ) → _≡_ {A = ℕ} (cond (eqb i i) 1 0) 1
-      here i = rw (eq-eqb i i refl)
-
       used-f : 0 < times f (c k)
       used-f = subst (λ (l : List ℕ). 0 < times f l) (sym cut) (times-mid f a b)
 
       once-f : times f (a ++ b) ≡ 0
-      once-f = omega (arith, single width w n c s k f (omega arith), ap (times f) cut, times-split f f a b, here f)
+      once-f = omega (arith, single width w n c s k f (omega arith), ap (times f) cut, times-split f f a b, counts-itself f)
 
       in-a : (r : ℕ) → 0 < times r a → r ≡ f → ⊥
       in-a r x e = omega (arith, once-f, times-append f a b, ap (λ (i : ℕ). times i a) e)

@@ -10,11 +10,12 @@ use lib.ListN.{length}
 use borrow.Author.Tests.{eq-eqb, lt-ltb, le-leb}
 use Rattle.words.specs.Words.{wordAt}
 use Rattle.drawer.specs.Chains.{walk, times}
+use Rattle.drawer.proofs.TestLaws.{and-left, and-right, and-both}
+use Rattle.drawer.proofs.TimesLaws.{times-here, times-more}
 use Rattle.drawer.proofs.Links.{Links, linkAfter}
 use Rattle.drawer.specs.Drawer.{chainOf, isChain, areChains, isSpread, isFilled, recordsOf, isWhole, isDrawer}
 use Rattle.drawer.specs.Search.{records}
-use Rattle.drawer.proofs.ChainLaws.{times-here, times-more}
-use Rattle.drawer.proofs.SpreadLaws.{and-left, and-right, and-both, Spread, spread-of, spread-walk, is-spread}
+use Rattle.drawer.proofs.SpreadLaws.{Spread, spread-of, spread-walk, is-spread}
 use Rattle.drawer.proofs.PassedLaws.{at-chains, chains-at}
 use Rattle.drawer.proofs.DrawerLaws.{parts}
 
