@@ -11,7 +11,7 @@ use borrow.Author.Tests.{eq-eqb, ne-eqb, ltb-true, ltb-false}
 use Rattle.words.specs.Words.{wordAt, bytesOf}
 use Rattle.records.specs.Record.{isDamaged}
 use Rattle.drawer.specs.Chains.{times}
-use Rattle.drawer.specs.Drawer.{idIn, isWhole}
+use Rattle.drawer.specs.Drawer.{idIn, isWhole, isDrawer}
 use Rattle.drawer.specs.Search.{isStop, records, recordOf}
 use Rattle.drawer.specs.Order.{Ascends}
 use Rattle.drawer.specs.Calls.{width, stateIn, newIn, goneFrom, freshTo, layOn, Left}
@@ -170,12 +170,27 @@ laid-ascend s e = go (isWhole width (length s)) refl
         subst (λ (l : Left). AllAscend (l .drawer)) (sym (laid-whole s w)) (fresh-ascend (records width s) (p .1) (p .2))
     go false w = absurd (omega (arith, e, ap (λ (l : Left). l .refusal) (laid-not s w)))
 
+pub laid-drawer : (s : List ℕ) → layOn s .refusal ≡ 0 → isDrawer width (layOn s .drawer) ≡ true
+laid-drawer s e = go (isWhole width (length s)) refl
+  where
+    go : (b : Bool) → isWhole width (length s) ≡ b → isDrawer width (layOn s .drawer) ≡ true
+    go true w = let p = whole-parts width (length s) w in
+        let n = records width s in
+        subst (λ (l : Left). isDrawer width (l .drawer) ≡ true) (sym (laid-whole s w)) (right n (bytesOf (freshTo n n)) [] (fresh-holds n (p .1) (p .2)))
+    go false w = absurd (omega (arith, e, ap (λ (l : Left). l .refusal) (laid-not s w)))
+
 pub with-lists : (s d : List ℕ) (r : ℕ) → record { refusal = r; drawer = d } ≡ layOn s
-    → (record { refusal = r; drawer = d } ≡ layOn s) × ((r ≡ 0 → AllDrawerLists d) × (r ≡ 0 → AllAscend d))
-with-lists s d r e = (
-  e,
-  (
-    (λ z. subst (λ (l : List ℕ). AllDrawerLists l) (ap (λ (l : Left). l .drawer) (sym e)) (laid-lists s (ap (λ (l : Left). l .refusal) (sym e) ∙ z))),
-    (λ z. subst (λ (l : List ℕ). AllAscend l) (ap (λ (l : Left). l .drawer) (sym e)) (laid-ascend s (ap (λ (l : Left). l .refusal) (sym e) ∙ z))),
-  ),
-)
+    → (record { refusal = r; drawer = d } ≡ layOn s)
+    × ((r ≡ 0 → isDrawer width d ≡ true) × ((r ≡ 0 → AllDrawerLists d) × (r ≡ 0 → AllAscend d)))
+with-lists s d r e =
+    let left : layOn s .drawer ≡ d = ap (λ (l : Left). l .drawer) (sym e) in
+    let answer : layOn s .refusal ≡ r = ap (λ (l : Left). l .refusal) (sym e) in (
+      e,
+      (
+        (λ z. subst (λ (l : List ℕ). isDrawer width l ≡ true) left (laid-drawer s (answer ∙ z))),
+        (
+          (λ z. subst (λ (l : List ℕ). AllDrawerLists l) left (laid-lists s (answer ∙ z))),
+          (λ z. subst (λ (l : List ℕ). AllAscend l) left (laid-ascend s (answer ∙ z))),
+        ),
+      ),
+    )

@@ -1,10 +1,11 @@
 // A fresh drawer.
 ghost use mathlib.Core.Path.{_≡_};
-ghost use mathlib.Core.Bool.{cond};
+ghost use mathlib.Core.Bool.{true, cond};
 ghost use Prim.Native.Nat.{_*_, _<_, _≤_};
 ghost use lib.Dec.{ltb};
 ghost use lib.ListN.{length};
 ghost use Rattle.words.specs.Words.{bytesOf, putAt};
+ghost use Rattle.drawer.specs.Drawer.{isDrawer};
 ghost use Rattle.drawer.specs.Calls.{width, layOn, firstWords, nextFree, freshTo};
 ghost use Rattle.drawer.specs.Lists.{AllDrawerLists, AllAscend};
 use crate::check::WIDTH;
@@ -15,6 +16,7 @@ use crate::put::put_free;
 // Lays out a fresh drawer, with every record free. Reads only the buffer's length: 13 for one that is no whole number of records.
 pub fn lay(drawer: &mut [u8]) -> u32
     ensures answers { λ r. ⌜ record { refusal = r; drawer = now (drawer .exit) } ≡ layOn (now (drawer .entry)) ⌝ }
+    ensures kept { λ r. ⌜ (r ≡ 0 → isDrawer width (now (drawer .exit)) ≡ true) ⌝ }
     ensures lists { λ r. ⌜ (r ≡ 0 → AllDrawerLists (now (drawer .exit))) ⌝ }
     ensures order { λ r. ⌜ (r ≡ 0 → AllAscend (now (drawer .exit))) ⌝ }
 {

@@ -9,6 +9,7 @@ ghost use Rattle.drawer.specs.Lists.{AllDrawerLists, AllAscend};
 #[no_mangle]
 pub extern "C" fn strakobud_drawer_lay(drawer: &mut [u8]) -> u32
     ensures answers { λ r. ⌜ record { refusal = r; drawer = now (drawer .exit) } ≡ Spec.layOn (now (drawer .entry)) ⌝ }
+    ensures kept { λ r. ⌜ (r ≡ 0 → isDrawer Spec.width (now (drawer .exit)) ≡ true) ⌝ }
     ensures lists { λ r. ⌜ (r ≡ 0 → AllDrawerLists (now (drawer .exit))) ⌝ }
     ensures order { λ r. ⌜ (r ≡ 0 → AllAscend (now (drawer .exit))) ⌝ }
 {
