@@ -1,7 +1,7 @@
 //! Every drawer of up to four records with ids 0, 1 and 16: every way to write its links, and every list of three calls on those that are good.
 
 use oracle::clock::StateBytes;
-use oracle::drawer::{faults, LENGTH_WORD, RECORD, STATE_WORD};
+use oracle::drawer::{chains_of, faults, LENGTH_WORD, RECORD, STATE_WORD};
 use oracle::drawer_vectors::Call;
 
 use crate::drawers::compare;
@@ -66,12 +66,18 @@ fn calls() -> Vec<Call> {
     IDS.into_iter().flat_map(of_id).collect()
 }
 
+/// Whether it is a drawer, and every free record has the first of the ids: the others would only show the same again.
+fn is_to_be_called(bytes: &[u8]) -> bool {
+    let is_first = |record: usize| bytes[record * RECORD + 4..][..8] == [0; 8];
+    faults(bytes).is_empty() && chains_of(bytes)[16].iter().all(|record| is_first(*record))
+}
+
 /// All lists of three calls where it is good, else one of each call.
 fn of_drawer(tally: &mut Tally, bytes: Vec<u8>, what: &str) {
-    let is_good = faults(&bytes).is_empty();
+    let is_to_be_called = is_to_be_called(&bytes);
     let given = Call::Given(bytes);
     let calls = calls();
-    if !is_good {
+    if !is_to_be_called {
         let list = [given, Call::Load(0), calls[0].clone(), Call::Forget(16)];
         return compare(tally, Part::SmallDrawers, &list, what);
     }

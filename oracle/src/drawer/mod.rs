@@ -12,7 +12,7 @@ mod states;
 use crate::branches::{met, met_if, Branch};
 use crate::clock::StateBytes;
 
-use chains::{put, Lists, FREE};
+use chains::{id_of, put, Lists, FREE};
 
 pub use faults::{faults, Fault};
 pub use held::Held;
@@ -136,4 +136,11 @@ pub fn chains_of(bytes: &[u8]) -> Vec<Vec<usize>> {
     (0..=FREE)
         .map(|chain| lists.of_head(chain).to_vec())
         .collect()
+}
+
+/// The ids of a drawer that is none of 13, by their chains.
+pub fn ids_of(bytes: &[u8]) -> Vec<u64> {
+    let chains = chains_of(bytes);
+    let used = chains[..FREE].concat().into_iter();
+    used.map(|record| id_of(bytes, record)).collect()
 }

@@ -42,7 +42,7 @@ pub fn any(random: &mut Random, bytes: &[u8], ids: &[u64]) -> Vec<Damage> {
     let lists = chains_of(bytes);
     let (free, heads) = lists.split_last().expect("17 chains");
     let used = one(random, &heads.concat(), count);
-    match random.below(16) {
+    match random.below(17) {
         0..=4 => vec![link(random, count)],
         5 => vec![word(0, LENGTH_WORD, random.one_of(&LENGTHS))],
         6 | 7 => vec![id_half(random, used, ids)],
@@ -56,6 +56,7 @@ pub fn any(random: &mut Random, bytes: &[u8], ids: &[u64]) -> Vec<Damage> {
         11 => absent(random, bytes, used),
         12 => vec![of_state(used, random.below(39), random.one_of(&EDGES))],
         13 | 14 => turned(random, heads),
+        15 => twice(random, bytes, heads),
         _ => vec![anywhere(random, bytes.len())],
     }
 }
@@ -109,14 +110,32 @@ fn absent(random: &mut Random, bytes: &[u8], record: usize) -> Vec<Damage> {
     )]
 }
 
+/// A chain with two records or more, where one has.
+fn long(random: &mut Random, heads: &[Vec<usize>]) -> Option<usize> {
+    let long: Vec<usize> = (0..16).filter(|head| heads[*head].len() > 1).collect();
+    (!long.is_empty()).then(|| long[random.below(long.len())])
+}
+
 /// Two neighbours of a chain in the other order, where one has two.
 fn turned(random: &mut Random, heads: &[Vec<usize>]) -> Vec<Damage> {
-    let long: Vec<usize> = (0..16).filter(|head| heads[*head].len() > 1).collect();
-    if long.is_empty() {
+    let Some(chain) = long(random, heads) else {
         return Vec::new();
-    }
-    let chain = long[random.below(long.len())];
+    };
     turned_at(chain, &heads[chain], random.below(heads[chain].len() - 1))
+}
+
+/// Both halves of another's id, which may be its own, in the same chain.
+fn twice(random: &mut Random, bytes: &[u8], heads: &[Vec<usize>]) -> Vec<Damage> {
+    let Some(chain) = long(random, heads) else {
+        return Vec::new();
+    };
+    let [from, to] = [0, 1].map(|_| one(random, &heads[chain], 0));
+    let half = |half: usize| {
+        let place = from * RECORD + 4 * half;
+        let bits = bytes[place..].first_chunk().expect("a word");
+        word(to, half, u32::from_le_bytes(*bits))
+    };
+    vec![half(1), half(2)]
 }
 
 /// The record at that place of a chain and the one behind it in the other order.

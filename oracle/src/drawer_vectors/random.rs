@@ -51,15 +51,15 @@ pub fn some_records(random: &mut Random) -> usize {
 
 /// A drawer laid out on any bytes, and calls on it.
 fn honest_scene(random: &mut Random, states: &States, script: &mut Script) {
-    let mut length = RECORD * some_records(random);
-    if random.below(32) == 0 {
-        length = LENGTHS[random.below(LENGTHS.len())];
-    }
+    let (length, calls) = match random.below(12) {
+        0 => (LENGTHS[random.below(LENGTHS.len())], 8),
+        _ => (RECORD * some_records(random), 4 + random.below(100)),
+    };
     let mut bytes = vec![0; length];
     bytes.fill_with(|| random.word() as u8);
     script.all([Call::Given(bytes), Call::Lay]);
     let ids = some(random, length / RECORD);
-    for _ in 0..4 + random.below(100) {
+    for _ in 0..calls {
         script.call(any_call(random, states, &ids));
     }
 }

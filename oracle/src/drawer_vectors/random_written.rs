@@ -5,7 +5,7 @@ use super::ids::some;
 use super::random::{any_call, of_scenes, some_records};
 use super::script::Script;
 use super::{Call, States};
-use crate::drawer::{lay, LENGTH_WORD, RECORD, STATE_WORD};
+use crate::drawer::{ids_of, lay, LENGTH_WORD, RECORD, STATE_WORD};
 use crate::random::Random;
 
 /// That many calls and words of others.
@@ -31,7 +31,7 @@ pub fn written_scene(random: &mut Random, states: &States, script: &mut Script) 
     }
 }
 
-/// One or two words of others and some calls on what they leave; then a 13 is mended.
+/// One or two words of others and some calls on what they leave; then a 13 is mended, or an id that is there is loaded.
 fn damaged_turn(random: &mut Random, states: &States, script: &mut Script, ids: &[u64]) {
     let mut damages = any(random, script.bytes(), ids);
     if random.below(3) == 0 {
@@ -48,6 +48,11 @@ fn damaged_turn(random: &mut Random, states: &States, script: &mut Script, ids: 
     }
     if !script.is_good() {
         script.put(&undoing);
+        return;
+    }
+    let held = ids_of(script.bytes());
+    if !held.is_empty() {
+        script.loads(&[held[random.below(held.len())]]);
     }
 }
 
