@@ -162,8 +162,9 @@ uint32_t strakobud_offset(const uint8_t state[STRAKOBUD_STATE_BYTES], uint8_t ou
  * 1 to 65,536 records of 168 bytes, the first of them for itself, so that n records hold n - 1 lists. Lay it out once,
  * hand each call the length that it was laid out with (another is 13), lend it to one call at a time, and write it by
  * these calls alone: then 13 is never answered, and a load gives the last state saved under its id since that was last
- * forgotten, or 14. On a buffer that somebody else wrote each answer is defined too, and a call that answers 0 leaves a
- * drawer. At a refusal both buffers are as they were.
+ * forgotten, or 14. On a buffer that somebody else wrote each answer is defined too, and a save or forget that answers
+ * 0 leaves a drawer; after 13 it has to be laid out anew, and all lists begin fresh. At a refusal both buffers are as
+ * they were.
  *
  * The 42 words of a record: the index of the next record of its chain, 0 at the chain's end; id 2, the low word first;
  * the 39 words of the state. Record 0: the heads of 16 chains of used records, one for each value of the lowest four
