@@ -24,11 +24,12 @@ struct Library {
 }
 
 impl Library {
-    fn none() -> Library {
+    /// No bytes; the number of calls so far picks alignments and what stands beside the bytes.
+    fn none(calls: usize) -> Library {
         Library {
             drawer: Guarded::of(&[], 0),
             state: Guarded::of(&UNWRITTEN, 0),
-            calls: 0,
+            calls,
         }
     }
 
@@ -82,7 +83,7 @@ impl Library {
 
 /// A list of calls, with no drawer at first; after a difference both sides go on from the oracle's.
 pub fn compare(tally: &mut Tally, part: Part, list: &[Call], what: &str) {
-    let (mut library, mut rust) = (Library::none(), Kept::none());
+    let (mut library, mut rust) = (Library::none(tally.compared as usize), Kept::none());
     let mut held = None;
     for (number, call) in list.iter().enumerate() {
         let (refusal, rust_refusal) = (library.call(call), rust.call(call));
