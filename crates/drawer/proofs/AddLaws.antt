@@ -20,12 +20,12 @@ use Rattle.drawer.specs.Lists.{save, IsCall, state, Event, saved, keptWo
 use Rattle.drawer.proofs.TimesLaws.{times-append, times-here, times-split, counts-no-other}
 use Rattle.drawer.proofs.Links.{Links, linkAfter}
 use Rattle.drawer.proofs.OrderLaws.{up-same, up-insert}
-use Rattle.drawer.proofs.SurgeryLaws.{chg, chg-here, chg-other, alone}
+use Rattle.drawer.proofs.SurgeryLaws.{changed, changed-here, changed-other, alone}
 use Rattle.drawer.proofs.DrawerLaws.{head-low}
 use Rattle.drawer.proofs.ViewLaws.{View}
 use Rattle.drawer.proofs.LookLaws.{absent-at, is-found}
 use Rattle.drawer.proofs.KeptLaws.{new-view, new-long, new-id, new-words, same-id, same-words}
-use Rattle.drawer.proofs.HeldLaws.{heldAt, heldIn, held-some, held-kept, Holds, chg2, pos-of}
+use Rattle.drawer.proofs.HeldLaws.{heldAt, heldIn, held-some, held-kept, Holds, changed-both, pos-of}
 use Rattle.drawer.proofs.RewriteLaws.{kept-long, kept-small, kept-sound}
 
 module _ (n : ℕ) (s : List ℕ) (h : List Event) (e : Holds n s h) where
@@ -47,7 +47,7 @@ module _ (n : ℕ) (s : List ℕ) (h : List Event) (e : Holds n s h) where
   module _ (x : ℕ) (st : List ℕ) (ok : IsCall (save x st)) (sound : isDamaged (wordAt st) 0 ≡ false) (none : recordOf width s x ≡ 0) (f : ℕ) (a b d : List ℕ)
       (cut : e .chains (x % 16) ≡ a ++ b) (free : e .chains 16 ≡ f ∷ d) where
     abbrev d2 : ℕ → List ℕ
-    d2 = chg (chg (e .chains) (x % 16) (a ++ (f ∷ b))) 16 d
+    d2 = changed (changed (e .chains) (x % 16) (a ++ (f ∷ b))) 16 d
 
     abbrev t : List ℕ
     t = newIn s x (keptWords st) f (linkAfter width (x % 16) a)
@@ -65,10 +65,10 @@ module _ (n : ℕ) (s : List ℕ) (h : List Event) (e : Holds n s h) where
     not-f j r l m q = alone width (wordAt s) (records width s) (e .chains) (e .view .spread) j 16 f (omega arith) (omega arith) (λ z. omega arith) (subst (λ (i : ℕ). 0 < times i (e .chains j)) q m) free-f
 
     at-k : d2 (x % 16) ≡ a ++ (f ∷ b)
-    at-k = chg2 (e .chains) (x % 16) (a ++ (f ∷ b)) d (x % 16) (head-low x) ∙ chg-here (e .chains) (x % 16) (a ++ (f ∷ b))
+    at-k = changed-both (e .chains) (x % 16) (a ++ (f ∷ b)) d (x % 16) (head-low x) ∙ changed-here (e .chains) (x % 16) (a ++ (f ∷ b))
 
     at-j : (j : ℕ) → j < 16 → (j ≡ x % 16 → ⊥) → d2 j ≡ e .chains j
-    at-j j l z = chg2 (e .chains) (x % 16) (a ++ (f ∷ b)) d j l ∙ chg-other (e .chains) (x % 16) (a ++ (f ∷ b)) j z
+    at-j j l z = changed-both (e .chains) (x % 16) (a ++ (f ∷ b)) d j l ∙ changed-other (e .chains) (x % 16) (a ++ (f ∷ b)) j z
 
     in-new : (j r : ℕ) → j < 16 → 0 < times r (e .chains j) → Dec (j ≡ x % 16) → 0 < times r (d2 j)
     in-new j r l m (yes z) =
@@ -147,6 +147,6 @@ module _ (n : ℕ) (s : List ℕ) (h : List Event) (e : Holds n s h) where
       view = u;
       size = same ∙ e .size;
       held = λ y. new-held y (ℕ-discrete x y);
-      count = rw (unknown) (omega (arith, e .count, ap length free, ap length (chg-here (chg (e .chains) (x % 16) (a ++ (f ∷ b))) 16 d)));
+      count = rw (unknown) (omega (arith, e .count, ap length free, ap length (changed-here (changed (e .chains) (x % 16) (a ++ (f ∷ b))) 16 d)));
       up = λ j l. new-up less more j l (ℕ-discrete j (x % 16));
     }

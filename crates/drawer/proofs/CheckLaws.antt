@@ -9,8 +9,9 @@ use native.Mathlib.Decide.{ℕ-discrete}
 use lib.Dec.{eqb, ltb}
 use lib.ListN.{length, length-append}
 use borrow.Author.Tests.{eq-eqb, ne-eqb, eqb-true, eqb-false, ltb-true, lt-ltb}
+use Rattle.numbers.proofs.TestLaws.{and-left, and-right, and-both, and-true}
 use Rattle.drawer.specs.Chains.{times}
-use Rattle.drawer.proofs.TestLaws.{and-left, and-right, and-both, clash}
+use Rattle.drawer.proofs.TestLaws.{clash}
 use Rattle.drawer.proofs.TimesLaws.{times-here, times-more}
 use Rattle.drawer.proofs.Links.{Links}
 use Rattle.drawer.specs.Drawer.{idIn, hasId, noIdTwice, underHead, isState, areStates}
@@ -106,10 +107,6 @@ abbrev pub Placed : (width : ℕ) → (ℕ → ℕ) → ℕ → ℕ → List ℕ
 Placed width w n k [] = Unit {0}
 Placed width w n k (r ∷ l) = (isPlaced width w n k r ≡ true) × Placed width w n k l
 
-and-true : (b : Bool) → b && true ≡ b
-and-true true = refl
-and-true false = refl
-
 and-assoc : (a b c : Bool) → (a && b) && c ≡ a && (b && c)
 and-assoc true b c = refl
 and-assoc false b c = refl
@@ -179,7 +176,7 @@ Below n (r ∷ l) = (r < n) × Below n l
 record-true : (n r : ℕ) → 0 < r → r < n → isRecord n r ≡ true
 record-true n r h k = and-both (ltb 0 r) (ltb r n) (lt-ltb 0 r h) (lt-ltb r n k)
 
-pub has-of : (width : ℕ) (w : ℕ → ℕ) (n x m p : ℕ) (l : List ℕ) → Links width w p l → Below n l → length l ≤ m → hasFrom width w n x m (w p) ≡ hasId width w x l
+has-of : (width : ℕ) (w : ℕ → ℕ) (n x m p : ℕ) (l : List ℕ) → Links width w p l → Below n l → length l ≤ m → hasFrom width w n x m (w p) ≡ hasId width w x l
 unfolding hasFrom hasId
 has-of width w n x zero p [] h below fits = refl
 has-of width w n x zero p (r ∷ l) h below fits = absurd (not-suc-le-zero fits)

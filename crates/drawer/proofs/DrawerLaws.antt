@@ -8,8 +8,8 @@ use lib.Dec.{eqb}
 use lib.ListN.{length}
 use borrow.Author.Tests.{eqb-true}
 use Rattle.words.specs.Words.{wordAt}
+use Rattle.numbers.proofs.TestLaws.{and-left, and-right}
 use Rattle.drawer.specs.Chains.{walk, times}
-use Rattle.drawer.proofs.TestLaws.{and-left, and-right}
 use Rattle.drawer.proofs.TimesLaws.{times-append, times-here, times-more}
 use Rattle.drawer.proofs.Links.{Links, linkAfter}
 use Rattle.drawer.specs.Drawer.{idIn, isWhole, isFilled, isDrawer}

@@ -1,22 +1,14 @@
 -- A fresh drawer's records, written one after the other.
 use mathlib.Core.Path.{_≡_, refl, sym, ap, _∙_}
-use mathlib.Core.List.{List, [], _∷_, _++_, append-nil, append-assoc}
+use mathlib.Core.List.{List, [], _++_, append-nil, append-assoc}
 use Prim.Native.Nat.{ℕ, zero, suc, _+_, _*_, _<_, _≤_}
 use native.Mathlib.Omega.{arith}
 use lib.ListN.{length, drop, length-append, length-drop, drop-of-length-le}
-use lib.Seq.{take-at, drop-at, drop-drop}
+use lib.Seq.{drop-at, drop-drop}
 use Rattle.words.specs.Words.{bytesOf, putAt}
 use Rattle.words.proofs.KeptLaws.{length-bytes}
+use Rattle.records.proofs.PartLaws.{bytes-append, put-after}
 use Rattle.drawer.specs.Calls.{width, firstWords, freeWords, nextFree, freshTo}
-
-pub bytes-append : (v w : List ℕ) → bytesOf (v ++ w) ≡ bytesOf v ++ bytesOf w
-unfolding bytesOf
-bytes-append [] w = refl
-bytes-append (x ∷ v) w = ap (λ (r : List ℕ). bytesOf (x ∷ []) ++ r) (bytes-append v w)
-
-pub put-after : (at : ℕ) (w p r : List ℕ) → length p ≡ 4 * at → putAt at w (p ++ r) ≡ p ++ (bytesOf w ++ drop (4 * length w) r)
-unfolding putAt
-put-after at w p r here = rw (take-at p r (4 * at) here, drop-at p r (4 * at) here)
 
 -- ---- a fresh drawer
 pub fresh-long : (n m : ℕ) → length (freshTo n m) ≡ width * m

@@ -20,18 +20,18 @@ use Rattle.drawer.proofs.TimesLaws.{times-append, times-here, times-spl
 use Rattle.drawer.proofs.Links.{linkAfter}
 use Rattle.drawer.proofs.OrderLaws.{up-same, up-remove}
 use Rattle.drawer.proofs.SpreadLaws.{spread-long}
-use Rattle.drawer.proofs.SurgeryLaws.{chg, chg-here, chg-other, alone}
+use Rattle.drawer.proofs.SurgeryLaws.{changed, changed-here, changed-other, alone}
 use Rattle.drawer.proofs.DrawerLaws.{head-low}
 use Rattle.drawer.proofs.IdLaws.{has-same, twice-remove, right-of}
 use Rattle.drawer.proofs.ViewLaws.{View}
 use Rattle.drawer.proofs.LookLaws.{is-absent}
 use Rattle.drawer.proofs.KeptLaws.{gone-view, gone-long, gone-same-id, gone-words, left-within, left-away}
-use Rattle.drawer.proofs.HeldLaws.{heldAt, heldIn, held-kept, Holds, chg2, long-two, pos-of}
+use Rattle.drawer.proofs.HeldLaws.{heldAt, heldIn, held-kept, Holds, changed-both, long-two, pos-of}
 
 module _ (n : ℕ) (s : List ℕ) (h : List Event) (e : Holds n s h) where
   module _ (x f : ℕ) (a b : List ℕ) (cut : e .chains (x % 16) ≡ a ++ (f ∷ b)) (known : idIn width (wordAt s) f ≡ x) where
     abbrev g2 : ℕ → List ℕ
-    g2 = chg (chg (e .chains) (x % 16) (a ++ b)) 16 (f ∷ e .chains 16)
+    g2 = changed (changed (e .chains) (x % 16) (a ++ b)) 16 (f ∷ e .chains 16)
 
     abbrev t′ : List ℕ
     t′ = goneFrom s f (linkAfter width (x % 16) a)
@@ -46,10 +46,10 @@ module _ (n : ℕ) (s : List ℕ) (h : List Event) (e : Holds n s h) where
     g-pos = pos-of n s h e (x % 16) f (omega (arith, head-low x)) used-f
 
     left-k : g2 (x % 16) ≡ a ++ b
-    left-k = chg2 (e .chains) (x % 16) (a ++ b) (f ∷ e .chains 16) (x % 16) (head-low x) ∙ chg-here (e .chains) (x % 16) (a ++ b)
+    left-k = changed-both (e .chains) (x % 16) (a ++ b) (f ∷ e .chains 16) (x % 16) (head-low x) ∙ changed-here (e .chains) (x % 16) (a ++ b)
 
     left-j : (j : ℕ) → j < 16 → (j ≡ x % 16 → ⊥) → g2 j ≡ e .chains j
-    left-j j l z = chg2 (e .chains) (x % 16) (a ++ b) (f ∷ e .chains 16) j l ∙ chg-other (e .chains) (x % 16) (a ++ b) j z
+    left-j j l z = changed-both (e .chains) (x % 16) (a ++ b) (f ∷ e .chains 16) j l ∙ changed-other (e .chains) (x % 16) (a ++ b) j z
 
     g-ids : (r : ℕ) → 0 < r → (r ≡ f → ⊥) → idIn width (wordAt t′) r ≡ idIn width (wordAt s) r
     g-ids = gone-same-id s (e .chains) (e .view) (x % 16) f a b (head-low x) cut
@@ -126,7 +126,7 @@ module _ (n : ℕ) (s : List ℕ) (h : List Event) (e : Holds n s h) where
         arith,
         e .count,
         e .size,
-        ap length (chg-here (chg (e .chains) (x % 16) (a ++ b)) 16 (f ∷ e .chains 16)),
+        ap length (changed-here (changed (e .chains) (x % 16) (a ++ b)) 16 (f ∷ e .chains 16)),
         long-two (e .chains) 16 (x % 16) (head-low x),
         spread-long width (wordAt s) (records width s) (e .chains) (e .view .some) (e .view .spread),
         ap length cut,

@@ -115,7 +115,7 @@ module _ (n : ℕ) (some : 0 < n) (most : n ≤ 65536) where
       read-back (freshTo n n) i (omega (arith, e)) ∙ e
 
   head-zero : (k : ℕ) → k < 16 → getD (firstWords n) k 0 ≡ 0
-  head-zero k h = List·getD-append (replicate 16 0) (cond (ltb 1 n) 1 0 ∷ 4 * width ∷ replicate (width - 18) 0) 0 k (omega arith) ∙ getD-replicate 16 k 0 0 h
+  head-zero k h = List·getD-append (replicate 16 0) (nextFree n 0 ∷ 4 * width ∷ replicate (width - 18) 0) 0 k (omega arith) ∙ getD-replicate 16 k 0 0 h
 
   word-head : (k : ℕ) → k < 16 → wordAt fresh k ≡ 0
   word-head k h = word-first k (omega arith) (omega (arith, head-zero k h)) ∙ head-zero k h

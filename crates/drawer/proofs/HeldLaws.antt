@@ -16,7 +16,7 @@ use Rattle.drawer.specs.Order.{Ascends}
 use Rattle.drawer.specs.Calls.{width, stateIn}
 use Rattle.drawer.specs.Lists.{Held, nothing, state, Event, lastSaved, isHeld, heldIds}
 use Rattle.drawer.proofs.SpreadLaws.{flat-long}
-use Rattle.drawer.proofs.SurgeryLaws.{chg, chg-other, pos}
+use Rattle.drawer.proofs.SurgeryLaws.{changed, changed-other, pos}
 use Rattle.drawer.proofs.SeekLaws.{Stopped}
 use Rattle.drawer.proofs.DrawerLaws.{parts, head-low, search-stops}
 use Rattle.drawer.proofs.ViewLaws.{View, view-walk, drawer-of}
@@ -65,8 +65,8 @@ held-is s zero = refl
 held-is s (suc r) = sym (ap not (ne-eqb (suc r) 0 (λ z. omega arith)))
 
 -- ---- two chains changed
-pub chg2 : (c : ℕ → List ℕ) (k : ℕ) (l d : List ℕ) (j : ℕ) → j < 16 → chg (chg c k l) 16 d j ≡ chg c k l j
-chg2 c k l d j h = chg-other (chg c k l) 16 d j (λ z. omega arith)
+pub changed-both : (c : ℕ → List ℕ) (k : ℕ) (l d : List ℕ) (j : ℕ) → j < 16 → changed (changed c k l) 16 d j ≡ changed c k l j
+changed-both c k l d j h = changed-other (changed c k l) 16 d j (λ z. omega arith)
 
 pub long-two : (c : ℕ → List ℕ) (m k : ℕ) → k < m → length (c k) + length (c m) ≤ length (flat c (suc m))
 unfolding flat

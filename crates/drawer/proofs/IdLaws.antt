@@ -1,15 +1,16 @@
 -- The tests of a chain's ids, heads and states: where the records' words stay, where a record is put in, and where one is taken out.
 use mathlib.Core.Path.{_≡_, refl, sym, ap, _∙_}
-use mathlib.Core.Bool.{Bool, true, false, not, _&&_, _||_}
+use mathlib.Core.Bool.{Bool, true, false, not, _&&_}
 use mathlib.Core.List.{List, [], _∷_, _++_}
 use Prim.Native.Nat.{ℕ, _+_, _*_, _/_, _%_, _<_}
 use native.Mathlib.Omega.{arith}
 use lib.Dec.{eqb}
 use borrow.Author.Tests.{eq-eqb, ne-eqb, eqb-false}
+use Rattle.numbers.proofs.TestLaws.{and-left, and-right, and-both, neither, not-left, not-right}
 use Rattle.drawer.specs.Chains.{times}
 use Rattle.drawer.specs.Drawer.{idIn, hasId, noIdTwice, underHead, isState, areStates, isChain}
 use Rattle.records.proofs.TidiedLaws.{damaged-same}
-use Rattle.drawer.proofs.TestLaws.{and-left, and-right, and-both, clash}
+use Rattle.drawer.proofs.TestLaws.{clash}
 use Rattle.drawer.proofs.TimesLaws.{times-here, times-more}
 
 -- ---- the words of a record
@@ -53,17 +54,6 @@ module _ (width : ℕ) (w v : ℕ → ℕ) where
   chain-same k l ids states = rw (head-same k l ids, twice-same l ids, states-same l states)
 
 -- ---- a record put in, and taken out
-pub or-false : (a b : Bool) → a ≡ false → b ≡ false → a || b ≡ false
-or-false a b p q = rw (p, q)
-
-pub or-left : (a b : Bool) → a || b ≡ false → a ≡ false
-or-left true b e = e
-or-left false b e = refl
-
-pub or-tail : (a b : Bool) → a || b ≡ false → b ≡ false
-or-tail true b e = absurd (clash true refl e)
-or-tail false b e = e
-
 not-of : (b : Bool) → b ≡ false → not b ≡ true
 not-of b e = rw (e)
 
@@ -71,18 +61,18 @@ pub of-not : (b : Bool) → not b ≡ true → b ≡ false
 of-not true e = absurd (clash false e refl)
 of-not false e = refl
 
-pub has-insert : (width : ℕ) (w : ℕ → ℕ) (x f : ℕ) (a b : List ℕ) → (idIn width w f ≡ x → ⊥) → hasId width w x (a ++ b) ≡ false → hasId width w x (a ++ (f ∷ b)) ≡ false
+has-insert : (width : ℕ) (w : ℕ → ℕ) (x f : ℕ) (a b : List ℕ) → (idIn width w f ≡ x → ⊥) → hasId width w x (a ++ b) ≡ false → hasId width w x (a ++ (f ∷ b)) ≡ false
 unfolding hasId
-has-insert width w x f [] b off e = or-false (eqb (idIn width w f) x) (hasId width w x b) (ne-eqb (idIn width w f) x off) e
+has-insert width w x f [] b off e = neither (eqb (idIn width w f) x) (hasId width w x b) (ne-eqb (idIn width w f) x off) e
 has-insert width w x f (r ∷ a) b off e =
-    or-false (eqb (idIn width w r) x) (hasId width w x (a ++ (f ∷ b))) (or-left (eqb (idIn width w r) x) (hasId width w x (a ++ b)) e) (has-insert width w x f a b off (or-tail (eqb (idIn width w r) x) (hasId width w x (a ++ b)) e))
+    neither (eqb (idIn width w r) x) (hasId width w x (a ++ (f ∷ b))) (not-left (eqb (idIn width w r) x) (hasId width w x (a ++ b)) e) (has-insert width w x f a b off (not-right (eqb (idIn width w r) x) (hasId width w x (a ++ b)) e))
 
-pub has-remove : (width : ℕ) (w : ℕ → ℕ) (x f : ℕ) (a b : List ℕ) → hasId width w x (a ++ (f ∷ b)) ≡ false → (hasId width w x (a ++ b) ≡ false) × (idIn width w f ≡ x → ⊥)
+has-remove : (width : ℕ) (w : ℕ → ℕ) (x f : ℕ) (a b : List ℕ) → hasId width w x (a ++ (f ∷ b)) ≡ false → (hasId width w x (a ++ b) ≡ false) × (idIn width w f ≡ x → ⊥)
 unfolding hasId
-has-remove width w x f [] b e = (or-tail (eqb (idIn width w f) x) (hasId width w x b) e, eqb-false (idIn width w f) x (or-left (eqb (idIn width w f) x) (hasId width w x b) e))
+has-remove width w x f [] b e = (not-right (eqb (idIn width w f) x) (hasId width w x b) e, eqb-false (idIn width w f) x (not-left (eqb (idIn width w f) x) (hasId width w x b) e))
 has-remove width w x f (r ∷ a) b e =
-    let rest = has-remove width w x f a b (or-tail (eqb (idIn width w r) x) (hasId width w x (a ++ (f ∷ b))) e) in
-    (or-false (eqb (idIn width w r) x) (hasId width w x (a ++ b)) (or-left (eqb (idIn width w r) x) (hasId width w x (a ++ (f ∷ b))) e) (rest .0), rest .1)
+    let rest = has-remove width w x f a b (not-right (eqb (idIn width w r) x) (hasId width w x (a ++ (f ∷ b))) e) in
+    (neither (eqb (idIn width w r) x) (hasId width w x (a ++ b)) (not-left (eqb (idIn width w r) x) (hasId width w x (a ++ (f ∷ b))) e) (rest .0), rest .1)
 
 twice-insert : (width : ℕ) (w : ℕ → ℕ) (f : ℕ) (a b : List ℕ) → hasId width w (idIn width w f) (a ++ b) ≡ false → noIdTwice width w (a ++ b) ≡ true → noIdTwice width w (a ++ (f ∷ b)) ≡ true
 unfolding noIdTwice hasId
@@ -90,9 +80,9 @@ twice-insert width w f [] b e t = and-both (not (hasId width w (idIn width w f) 
 twice-insert width w f (r ∷ a) b e t =
     and-both (not (hasId width w (idIn width w r) (a ++ (f ∷ b)))) (noIdTwice width w (a ++ (f ∷ b)))
     (not-of (hasId width w (idIn width w r) (a ++ (f ∷ b)))
-    (has-insert width w (idIn width w r) f a b (λ z. eqb-false (idIn width w r) (idIn width w f) (or-left (eqb (idIn width w r) (idIn width w f)) (hasId width w (idIn width w f) (a ++ b)) e) (sym z))
+    (has-insert width w (idIn width w r) f a b (λ z. eqb-false (idIn width w r) (idIn width w f) (not-left (eqb (idIn width w r) (idIn width w f)) (hasId width w (idIn width w f) (a ++ b)) e) (sym z))
     (of-not (hasId width w (idIn width w r) (a ++ b)) (and-left (not (hasId width w (idIn width w r) (a ++ b))) (noIdTwice width w (a ++ b)) t))))
-    (twice-insert width w f a b (or-tail (eqb (idIn width w r) (idIn width w f)) (hasId width w (idIn width w f) (a ++ b)) e) (and-right (not (hasId width w (idIn width w r) (a ++ b))) (noIdTwice width w (a ++ b)) t))
+    (twice-insert width w f a b (not-right (eqb (idIn width w r) (idIn width w f)) (hasId width w (idIn width w f) (a ++ b)) e) (and-right (not (hasId width w (idIn width w r) (a ++ b))) (noIdTwice width w (a ++ b)) t))
 
 -- besides: the id that was taken out stands no more
 pub twice-remove : (width : ℕ) (w : ℕ → ℕ) (f : ℕ) (a b : List ℕ) → noIdTwice width w (a ++ (f ∷ b)) ≡ true → (noIdTwice width w (a ++ b) ≡ true) × (hasId width w (idIn width w f) (a ++ b) ≡ false)
@@ -103,7 +93,7 @@ twice-remove width w f (r ∷ a) b t =
     let rest = twice-remove width w f a b (and-right (not (hasId width w (idIn width w r) (a ++ (f ∷ b)))) (noIdTwice width w (a ++ (f ∷ b))) t) in
     let gone = has-remove width w (idIn width w r) f a b (of-not (hasId width w (idIn width w r) (a ++ (f ∷ b))) (and-left (not (hasId width w (idIn width w r) (a ++ (f ∷ b)))) (noIdTwice width w (a ++ (f ∷ b))) t)) in (
       and-both (not (hasId width w (idIn width w r) (a ++ b))) (noIdTwice width w (a ++ b)) (not-of (hasId width w (idIn width w r) (a ++ b)) (gone .0)) (rest .0),
-      or-false (eqb (idIn width w r) (idIn width w f)) (hasId width w (idIn width w f) (a ++ b)) (ne-eqb (idIn width w r) (idIn width w f) (λ z. gone .1 (sym z))) (rest .1),
+      neither (eqb (idIn width w r) (idIn width w f)) (hasId width w (idIn width w f) (a ++ b)) (ne-eqb (idIn width w r) (idIn width w f) (λ z. gone .1 (sym z))) (rest .1),
     )
 
 head-insert : (width : ℕ) (w : ℕ → ℕ) (k f : ℕ) (a b : List ℕ) → idIn width w f % 16 ≡ k → underHead width w k (a ++ b) ≡ true → underHead width w k (a ++ (f ∷ b)) ≡ true

@@ -9,8 +9,9 @@ use native.Mathlib.Omega.{arith}
 use native.Mathlib.Decide.{ℕ-discrete}
 use lib.ListN.{length, getD}
 use Rattle.words.specs.Words.{wordAt, putAt}
+use Rattle.numbers.proofs.TestLaws.{and-left, and-right, and-both}
 use Rattle.drawer.specs.Chains.{times}
-use Rattle.drawer.proofs.TestLaws.{and-left, and-right, and-both, lt-or}
+use Rattle.drawer.proofs.TestLaws.{lt-or}
 use Rattle.drawer.proofs.TimesLaws.{times-append, times-here, times-more, times-split, times-mid, counts-itself}
 use Rattle.drawer.proofs.Links.{Links, linkAfter}
 use Rattle.drawer.specs.Drawer.{idIn, hasId, isState, areStates, isChain, recordsOf}
@@ -19,7 +20,7 @@ use Rattle.records.specs.Record.{isDamaged}
 use Rattle.records.proofs.TidiedLaws.{damaged-same}
 use Rattle.drawer.specs.Calls.{width, newIn, goneFrom}
 use Rattle.drawer.proofs.SpreadLaws.{Spread}
-use Rattle.drawer.proofs.SurgeryLaws.{chg, chg-here, chg-other, pos, below, single, alone, saved, forgotten, kept}
+use Rattle.drawer.proofs.SurgeryLaws.{changed, changed-here, changed-other, pos, below, single, alone, saved, forgotten, kept}
 use Rattle.drawer.proofs.ViewLaws.{View, link-form, link-value}
 use Rattle.drawer.proofs.NewLaws.{new-length, new-link, new-next, new-low, new-high, new-state, new-free, new-other, over-length, over-state, over-other, gone-length, gone-free, gone-next, gone-link, gone-other}
 use Rattle.drawer.proofs.IdLaws.{id-same, id-is, state-same, has-same, chain-same, chain-insert, chain-remove, right-of, of-right, right-ids}
@@ -150,23 +151,23 @@ module _ (s : List ℕ) (c : ℕ → List ℕ) (v : View width s c) where
     chain-kept j h =
         chain-same width (wordAt s) (wordAt t) j (c j) (chain-ids j h) (λ r m. state-same width (wordAt s) (wordAt t) r r (same-words r (pos width (wordAt s) (records width s) c (v .spread) j r (omega arith) m) (not-f j r h m))) ∙ v .chain j h
 
-    chains : (j : ℕ) → j < 16 → Dec (j ≡ k) → isChain width (wordAt t) j (chg (chg c k (a ++ (f ∷ b))) 16 d j) ≡ true
+    chains : (j : ℕ) → j < 16 → Dec (j ≡ k) → isChain width (wordAt t) j (changed (changed c k (a ++ (f ∷ b))) 16 d j) ≡ true
     chains j h (no e) =
-        subst (λ (i : List ℕ). isChain width (wordAt t) j i ≡ true) (sym (chg-other (chg c k (a ++ (f ∷ b))) 16 d j (λ z. omega arith) ∙ chg-other c k (a ++ (f ∷ b)) j e)) (chain-kept j h)
+        subst (λ (i : List ℕ). isChain width (wordAt t) j i ≡ true) (sym (changed-other (changed c k (a ++ (f ∷ b))) 16 d j (λ z. omega arith) ∙ changed-other c k (a ++ (f ∷ b)) j e)) (chain-kept j h)
     chains j h (yes e) =
-        subst (λ (i : ℕ). isChain width (wordAt t) i (chg (chg c k (a ++ (f ∷ b))) 16 d i) ≡ true) (sym e)
-        (subst (λ (i : List ℕ). isChain width (wordAt t) k i ≡ true) (sym (chg-other (chg c k (a ++ (f ∷ b))) 16 d k (λ z. omega arith) ∙ chg-here c k (a ++ (f ∷ b))))
+        subst (λ (i : ℕ). isChain width (wordAt t) i (changed (changed c k (a ++ (f ∷ b))) 16 d i) ≡ true) (sym e)
+        (subst (λ (i : List ℕ). isChain width (wordAt t) k i ≡ true) (sym (changed-other (changed c k (a ++ (f ∷ b))) 16 d k (λ z. omega arith) ∙ changed-here c k (a ++ (f ∷ b))))
         (chain-insert width (wordAt t) k f a b (subst (λ (i : List ℕ). isChain width (wordAt t) k i ≡ true) cut (chain-kept k low)) (ap (λ (i : ℕ). i % 16) new-id ∙ here)
         (rw (new-id) (subst (λ (i : List ℕ). hasId width (wordAt t) x i ≡ false) cut (has-same width (wordAt s) (wordAt t) x (c k) (chain-ids k low) ∙ new)))
         new-sound))
 
-    pub new-view : View width t (chg (chg c k (a ++ (f ∷ b))) 16 d)
+    pub new-view : View width t (changed (changed c k (a ++ (f ∷ b))) 16 d)
     new-view = record {
       size = long-t ∙ v .size ∙ ap (λ (i : ℕ). 4 * (width * i)) (sym same-records);
       some = omega (arith, same-records, v .some);
       most = omega (arith, same-records, v .most);
       named = other 17 (l .not-size) (λ z. omega arith) (inl (omega (arith, f-pos))) ∙ v .named;
-      spread = subst (λ (i : ℕ). Spread width (wordAt t) i (chg (chg c k (a ++ (f ∷ b))) 16 d)) (sym same-records)
+      spread = subst (λ (i : ℕ). Spread width (wordAt t) i (changed (changed c k (a ++ (f ∷ b))) 16 d)) (sym same-records)
           (saved width (wordAt s) (records width s) c (v .spread) (omega arith) (wordAt t) k f a b d low cut free
           (new-link s x st f (linkAfter width k a) long f-pos room (l .room) (l .off) (l .not-free) (small f f-low))
           (new-next s x st f (linkAfter width k a) long f-pos room (l .room) (l .off) (l .not-free) (small (wordAt s (linkAfter width k a)) value))
@@ -260,22 +261,22 @@ module _ (s : List ℕ) (c : ℕ → List ℕ) (v : View width s c) where
     left-away r n e =
         omega (arith, subst (λ (i : ℕ). 0 < times i (a ++ b)) e n, times-append f a b, times-split f f a b, counts-itself f, ap (times f) cut, single width (wordAt s) (records width s) c (v .spread) k f (omega arith))
 
-    g-chains : (j : ℕ) → j < 16 → Dec (j ≡ k) → isChain width (wordAt u) j (chg (chg c k (a ++ b)) 16 (f ∷ c 16) j) ≡ true
+    g-chains : (j : ℕ) → j < 16 → Dec (j ≡ k) → isChain width (wordAt u) j (changed (changed c k (a ++ b)) 16 (f ∷ c 16) j) ≡ true
     g-chains j h (no e) =
-        subst (λ (i : List ℕ). isChain width (wordAt u) j i ≡ true) (sym (chg-other (chg c k (a ++ b)) 16 (f ∷ c 16) j (λ z. omega arith) ∙ chg-other c k (a ++ b) j e))
+        subst (λ (i : List ℕ). isChain width (wordAt u) j i ≡ true) (sym (changed-other (changed c k (a ++ b)) 16 (f ∷ c 16) j (λ z. omega arith) ∙ changed-other c k (a ++ b) j e))
         (chain-left j (c j) h (λ r n. n) (λ r n. not-else j r h e n) (v .chain j h))
     g-chains j h (yes e) =
-        subst (λ (i : ℕ). isChain width (wordAt u) i (chg (chg c k (a ++ b)) 16 (f ∷ c 16) i) ≡ true) (sym e)
-        (subst (λ (i : List ℕ). isChain width (wordAt u) k i ≡ true) (sym (chg-other (chg c k (a ++ b)) 16 (f ∷ c 16) k (λ z. omega arith) ∙ chg-here c k (a ++ b)))
+        subst (λ (i : ℕ). isChain width (wordAt u) i (changed (changed c k (a ++ b)) 16 (f ∷ c 16) i) ≡ true) (sym e)
+        (subst (λ (i : List ℕ). isChain width (wordAt u) k i ≡ true) (sym (changed-other (changed c k (a ++ b)) 16 (f ∷ c 16) k (λ z. omega arith) ∙ changed-here c k (a ++ b)))
         (chain-left k (a ++ b) low left-within left-away (chain-remove width (wordAt s) k f a b (subst (λ (i : List ℕ). isChain width (wordAt s) k i ≡ true) cut (v .chain k low)))))
 
-    pub gone-view : View width u (chg (chg c k (a ++ b)) 16 (f ∷ c 16))
+    pub gone-view : View width u (changed (changed c k (a ++ b)) 16 (f ∷ c 16))
     gone-view = record {
       size = long-u ∙ v .size ∙ ap (λ (i : ℕ). 4 * (width * i)) (sym gone-records);
       some = omega (arith, gone-records, v .some);
       most = omega (arith, gone-records, v .most);
       named = g-other 17 (m .not-size) (λ z. omega arith) (inl (omega (arith, g-pos))) ∙ v .named;
-      spread = subst (λ (i : ℕ). Spread width (wordAt u) i (chg (chg c k (a ++ b)) 16 (f ∷ c 16))) (sym gone-records)
+      spread = subst (λ (i : ℕ). Spread width (wordAt u) i (changed (changed c k (a ++ b)) 16 (f ∷ c 16))) (sym gone-records)
           (forgotten width (wordAt s) (records width s) c (v .spread) (omega arith) (wordAt u) k f a b low cut
           (gone-link s f (linkAfter width k a) g-pos g-room (m .room) (m .off) (m .not-free) (g-small (wordAt s (width * f)) after-value))
           (gone-next s f (linkAfter width k a) g-pos g-room (m .room) (m .off) (m .not-free) (g-small (wordAt s 16) head-value))

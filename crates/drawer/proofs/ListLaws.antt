@@ -134,7 +134,7 @@ fresh-holds n some most = record {
   up = λ k l. subst (λ (i : List ℕ). Ascends width (wordAt (bytesOf (freshTo n n))) i) (sym (used-empty n some most k l)) tt;
 }
 
-pub fresh-lists : (n : ℕ) → 0 < n → n ≤ 65536 → AllDrawerLists (bytesOf (freshTo n n))
+fresh-lists : (n : ℕ) → 0 < n → n ≤ 65536 → AllDrawerLists (bytesOf (freshTo n n))
 fresh-lists n some most calls ok =
     all-from n (bytesOf (freshTo n n)) [] (fresh-holds n some most) calls ok ∙ ap (λ (i : ℕ). answersBy i [] calls) (sym (fresh-records n some most))
 
@@ -156,7 +156,7 @@ unfolding leftAfter eventsAfter Step
 left-holds n s h e [] ok = e
 left-holds n s h e (call ∷ calls) ok = left-holds n (leftOn s call) (eventsBy n h call) (step n s h e call (ok .0) .1) calls (ok .1)
 
-pub fresh-ascend : (n : ℕ) → 0 < n → n ≤ 65536 → AllAscend (bytesOf (freshTo n n))
+fresh-ascend : (n : ℕ) → 0 < n → n ≤ 65536 → AllAscend (bytesOf (freshTo n n))
 fresh-ascend n some most calls ok k low =
     let e = left-holds n (bytesOf (freshTo n n)) [] (fresh-holds n some most) calls ok in
     let t = leftAfter (bytesOf (freshTo n n)) calls in

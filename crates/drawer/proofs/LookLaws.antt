@@ -8,33 +8,33 @@ use native.Mathlib.Decide.{ℕ-discrete}
 use lib.Dec.{eqb}
 use borrow.Author.Tests.{ne-eqb, eqb-true, eqb-false}
 use Rattle.words.specs.Words.{wordAt}
+use Rattle.numbers.proofs.TestLaws.{and-left, and-right, neither, not-left, not-right}
 use Rattle.drawer.specs.Chains.{walk, times}
-use Rattle.drawer.proofs.TestLaws.{and-left, and-right}
 use Rattle.drawer.proofs.TimesLaws.{times-here, times-more, times-nil, times-other}
 use Rattle.drawer.proofs.Links.{Links}
 use Rattle.drawer.specs.Drawer.{idIn, hasId, noIdTwice}
 use Rattle.drawer.specs.Search.{isStop, records, recordOf}
 use Rattle.drawer.proofs.SeekLaws.{Stopped, stopped-at, stopped-none}
 use Rattle.drawer.proofs.DrawerLaws.{parts, head-low, search-stops}
-use Rattle.drawer.proofs.IdLaws.{right-of, or-left, or-tail, or-false, of-not}
+use Rattle.drawer.proofs.IdLaws.{right-of, of-not}
 use Rattle.drawer.proofs.ViewLaws.{View, view-walk, drawer-of}
 
 pub has-not : (width : ℕ) (w : ℕ → ℕ) (x : ℕ) (l : List ℕ) (r : ℕ) → hasId width w x l ≡ false → 0 < times r l → idIn width w r ≡ x → ⊥
 unfolding hasId
 has-not width w x [] r e h z = omega (arith, times-nil r)
-has-not width w x (y ∷ l) r e h z = go (ℕ-discrete r y) (λ k. has-not width w x l r (or-tail (eqb (idIn width w y) x) (hasId width w x l) e) k z)
+has-not width w x (y ∷ l) r e h z = go (ℕ-discrete r y) (λ k. has-not width w x l r (not-right (eqb (idIn width w y) x) (hasId width w x l) e) k z)
   where
     go : Dec (r ≡ y) → (0 < times r l → ⊥) → ⊥
-    go (yes q) rest = eqb-false (idIn width w y) x (or-left (eqb (idIn width w y) x) (hasId width w x l) e) (subst (λ (i : ℕ). idIn width w i ≡ x) q z)
+    go (yes q) rest = eqb-false (idIn width w y) x (not-left (eqb (idIn width w y) x) (hasId width w x l) e) (subst (λ (i : ℕ). idIn width w i ≡ x) q z)
     go (no q) rest = rest (omega (arith, h, times-other r y l q))
 
 pub not-has : (width : ℕ) (w : ℕ → ℕ) (x : ℕ) (l : List ℕ) → ((r : ℕ) → 0 < times r l → idIn width w r ≡ x → ⊥) → hasId width w x l ≡ false
 unfolding hasId
 not-has width w x [] h = refl
 not-has width w x (y ∷ l) h =
-    or-false (eqb (idIn width w y) x) (hasId width w x l) (ne-eqb (idIn width w y) x (h y (times-here y l))) (not-has width w x l (λ r k. h r (omega (arith, times-more r y l))))
+    neither (eqb (idIn width w y) x) (hasId width w x l) (ne-eqb (idIn width w y) x (h y (times-here y l))) (not-has width w x l (λ r k. h r (omega (arith, times-more r y l))))
 
-pub only-one : (width : ℕ) (w : ℕ → ℕ) (l : List ℕ) (r q : ℕ) → noIdTwice width w l ≡ true → 0 < times r l → 0 < times q l → idIn width w r ≡ idIn width w q → r ≡ q
+only-one : (width : ℕ) (w : ℕ → ℕ) (l : List ℕ) (r q : ℕ) → noIdTwice width w l ≡ true → 0 < times r l → 0 < times q l → idIn width w r ≡ idIn width w q → r ≡ q
 unfolding noIdTwice
 only-one width w [] r q t h k e = absurd (omega (arith, times-nil r))
 only-one width w (y ∷ l) r q t h k e = go (ℕ-discrete r y) (ℕ-discrete q y) (λ a b. only-one width w l r q (and-right (not (hasId width w (idIn width w y) l)) (noIdTwice width w l) t) a b e)

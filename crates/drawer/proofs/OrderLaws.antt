@@ -1,6 +1,6 @@
 -- Ids that ascend along a chain: where they stay, where a record is put in, and where one is taken out.
 use mathlib.Core.Path.{_≡_, refl, sym, subst}
-use mathlib.Core.Bool.{Bool, true, false, _||_}
+use mathlib.Core.Bool.{true, _||_}
 use mathlib.Core.Logic.{_⊎_, inr, ⊎-elim}
 use mathlib.Core.List.{List, [], _∷_, _++_}
 use Prim.Native.Nat.{ℕ, _<_}
@@ -8,10 +8,10 @@ use native.Mathlib.Omega.{arith}
 use native.Mathlib.Decide.{ℕ-discrete}
 use lib.Dec.{eqb, ltb}
 use borrow.Author.Tests.{eq-eqb, lt-ltb}
+use Rattle.numbers.proofs.TestLaws.{and-both, or-left, or-right}
 use Rattle.drawer.specs.Chains.{times}
 use Rattle.drawer.specs.Drawer.{idIn}
 use Rattle.drawer.specs.Order.{Ascends}
-use Rattle.drawer.proofs.TestLaws.{and-both}
 use Rattle.drawer.proofs.TimesLaws.{times-here, times-more, times-nil, times-other, times-split, counts-no-other}
 use Rattle.drawer.proofs.CheckLaws.{ascends}
 
@@ -52,19 +52,12 @@ up-rest width w x [] (r ∷ d) h first q m = go (ℕ-discrete q r)
     go (no e) = omega (arith, first r d refl, h .0 q (omega (arith, m, times-other q r d e)))
 
 -- the check's tour sees that they ascend
-or-true : (a b : Bool) → b ≡ true → a || b ≡ true
-or-true true b e = refl
-or-true false b e = e
-
-true-or : (a b : Bool) → a ≡ true → a || b ≡ true
-true-or a b e = rw (e)
-
 pub up-ascends : (width : ℕ) (w : ℕ → ℕ) (last prev : ℕ) (l : List ℕ) → ((q : ℕ) → 0 < times q l → (last ≡ 0) ⊎ (prev < idIn width w q)) → Ascends width w l → ascends width w last prev l ≡ true
 up-ascends width w last prev [] first h = refl
 up-ascends width w last prev (r ∷ l) first h =
     and-both (eqb last 0 || ltb prev (idIn width w r)) (ascends width w r (idIn width w r) l)
     (⊎-elim
-    (λ z. true-or (eqb last 0) (ltb prev (idIn width w r)) (eq-eqb last 0 z))
-    (λ z. or-true (eqb last 0) (ltb prev (idIn width w r)) (lt-ltb prev (idIn width w r) z))
+    (λ z. or-left (eqb last 0) (ltb prev (idIn width w r)) (eq-eqb last 0 z))
+    (λ z. or-right (eqb last 0) (ltb prev (idIn width w r)) (lt-ltb prev (idIn width w r) z))
     (first r (times-here r l)))
     (up-ascends width w r (idIn width w r) l (λ q m. inr (h .0 q m)) (h .1))

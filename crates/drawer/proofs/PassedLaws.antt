@@ -11,8 +11,9 @@ use lib.Dec.{eqb}
 use lib.ListN.{length, length-append, getD, set, length-set, replicate}
 use lib.Seq.{getD-set-same, getD-set-other}
 use borrow.Author.Tests.{eq-eqb, ne-eqb, eqb-false}
+use Rattle.numbers.proofs.TestLaws.{and-left, and-right, and-both}
 use Rattle.drawer.specs.Chains.{walk, times}
-use Rattle.drawer.proofs.TestLaws.{and-left, and-right, and-both, false-of, clash}
+use Rattle.drawer.proofs.TestLaws.{false-of, clash}
 use Rattle.drawer.proofs.TimesLaws.{times-append, times-here, times-more, times-nil, times-other}
 use Rattle.drawer.proofs.Links.{Links}
 use Rattle.drawer.specs.Chains.{flat}

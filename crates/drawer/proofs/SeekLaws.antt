@@ -2,16 +2,15 @@
 use mathlib.Core.Path.{_≡_, refl, sym, ap, _∙_, subst}
 use mathlib.Core.Bool.{Bool, true, false}
 use mathlib.Core.List.{List, [], _∷_, _++_, append-nil}
-use Prim.Native.Nat.{ℕ, zero, suc, _+_, _*_, _<_, _≤_}
+use Prim.Native.Nat.{ℕ, zero, suc, _*_, _<_, _≤_}
 use native.Mathlib.Nat.{not-suc-le-zero}
 use native.Mathlib.Omega.{arith}
 use lib.Dec.{ltb}
-use lib.ListN.{length, getD, take, drop, length-drop, set}
-use lib.Seq.{ext-getD, getD-take, getD-drop, length-take-le, getD-set-same, getD-set-other}
+use lib.ListN.{length, getD}
 use native.Mathlib.Decide.{ℕ-discrete}
 use borrow.Author.Tests.{lt-ltb}
+use Rattle.numbers.proofs.TestLaws.{and-both}
 use Rattle.drawer.specs.Chains.{times}
-use Rattle.drawer.proofs.TestLaws.{and-both}
 use Rattle.drawer.proofs.TimesLaws.{times-append, times-here, times-nil, times-other}
 use Rattle.drawer.proofs.Links.{Links, linkAfter}
 use Rattle.drawer.proofs.ChainLaws.{link-ends, link-names}
@@ -41,12 +40,6 @@ module _ (width : ℕ) (stop : ℕ → Bool) (w : ℕ → ℕ) (n : ℕ) where
   pub seek-last : (m p : ℕ) → m ≡ 0 → seek width stop w n m p ≡ p
   unfolding seek
   seek-last m p more = rw (more)
-
-pub copied : (s state : List ℕ) (at : ℕ) → length state ≡ 156 → at + 156 ≤ length s → ((k : ℕ) → k < 156 → getD state k 0 ≡ getD s (at + k) 0) → state ≡ take 156 (drop at s)
-copied s state at long room same =
-    ext-getD 0 state (take 156 (drop at s))
-    (long ∙ sym (length-take-le 156 (drop at s) (omega (arith, length-drop at s))))
-    (λ k h. same k (omega (arith, long)) ∙ sym (getD-take 156 (drop at s) k 0 (omega (arith, long)) ∙ getD-drop at s k 0))
 
 -- ---- where in a chain the search stops: after the records a, at which the test does not stop; the next, if any, stops it
 pub record Stopped (width : ℕ) (stop : ℕ → Bool) (w : ℕ → ℕ) (n m p : ℕ) (l : List ℕ) : Type 0 where
@@ -130,11 +123,3 @@ stopped-none width stop w n m p l h s none = go (s .rest) (s .cut)
     go (r ∷ b) cut =
         let k = subst (λ (i : List ℕ). Links width w p i) cut h in
         absurd (omega (arith, ap w (s .at), link-names width w p r (s .front) b k, some-mid width w p r (s .front) b k))
-
-pub copied-next : (s state : List ℕ) (at i : ℕ) → i < length state → ((k : ℕ) → k < i → getD state k 0 ≡ getD s (at + k) 0)
-    → (k : ℕ) → k < i + 1 → getD (set state i (getD s (at + i) 0)) k 0 ≡ getD s (at + k) 0
-copied-next s state at i room same k h = go (ℕ-discrete k i)
-  where
-    go : Dec (k ≡ i) → getD (set state i (getD s (at + i) 0)) k 0 ≡ getD s (at + k) 0
-    go (yes e) = subst (λ (j : ℕ). getD (set state i (getD s (at + i) 0)) j 0 ≡ getD s (at + j) 0) (sym e) (getD-set-same state i (getD s (at + i) 0) 0 room)
-    go (no e) = getD-set-other state i k (getD s (at + i) 0) 0 e ∙ same k (omega arith)

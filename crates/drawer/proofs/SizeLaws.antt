@@ -4,8 +4,8 @@ use mathlib.Core.Bool.{true, _&&_}
 use Prim.Native.Nat.{ℕ, _*_, _<_, _≤_}
 use lib.Dec.{eqb, ltb, leb}
 use borrow.Author.Tests.{eqb-true, ltb-true, leb-true}
+use Rattle.numbers.proofs.TestLaws.{and-left, and-right}
 use Rattle.drawer.specs.Drawer.{recordsOf, isWhole}
-use Rattle.drawer.proofs.TestLaws.{and-left, and-right}
 
 pub whole-parts : (width len : ℕ) → isWhole width len ≡ true
     → (len ≡ 4 * (width * recordsOf width len)) × (0 < recordsOf width len) × (recordsOf width len ≤ 65536)

@@ -10,8 +10,9 @@ use native.Mathlib.Decide.{ℕ-discrete}
 use lib.Dec.{eqb}
 use lib.ListN.{length, length-append}
 use borrow.Author.Tests.{eq-eqb, ne-eqb, eqb-true}
+use Rattle.numbers.proofs.TestLaws.{and-left, and-right, and-both}
 use Rattle.drawer.specs.Chains.{walk, times}
-use Rattle.drawer.proofs.TestLaws.{and-left, and-right, and-both, lt-or}
+use Rattle.drawer.proofs.TestLaws.{lt-or}
 use Rattle.drawer.proofs.TimesLaws.{times-append, times-here, times-more}
 use Rattle.drawer.proofs.Links.{Links}
 use Rattle.drawer.specs.Chains.{flat}
@@ -20,7 +21,7 @@ use Rattle.drawer.proofs.ChainLaws.{links-walk, walk-links}
 
 -- ---- tests
 -- ---- chains one after the other
-pub flat-same : (c d : ℕ → List ℕ) (m : ℕ) → ((k : ℕ) → k < m → c k ≡ d k) → flat c m ≡ flat d m
+flat-same : (c d : ℕ → List ℕ) (m : ℕ) → ((k : ℕ) → k < m → c k ≡ d k) → flat c m ≡ flat d m
 unfolding flat
 flat-same c d zero same = refl
 flat-same c d (suc m) same = rw (flat-same c d m (λ k h. same k (omega arith)), same m (omega arith))

@@ -14,7 +14,7 @@ use Rattle.drawer.specs.Calls.{width, newIn, putOn, goneFrom, forgetOn, 
 use Rattle.drawer.proofs.Links.{Links, linkAfter}
 use Rattle.drawer.proofs.SeekLaws.{Stopped, stopped-at}
 use Rattle.drawer.proofs.DrawerLaws.{parts, head-low, search-stops}
-use Rattle.drawer.proofs.SurgeryLaws.{chg}
+use Rattle.drawer.proofs.SurgeryLaws.{changed}
 use Rattle.drawer.proofs.ViewLaws.{View, view-of, drawer-of}
 use Rattle.drawer.proofs.KeptLaws.{over-view, new-view, gone-view}
 use Rattle.drawer.proofs.LookLaws.{found-at, absent-at}
@@ -54,7 +54,7 @@ put-keeps s x ws fits long small sound z = go (isDrawer width s) refl (ℕ-discr
         subst (λ (l : Left). isDrawer width (l .drawer) ≡ true)
         (sym (put-new s x ws r f g ∙ ap (λ (p : ℕ). record { refusal = 0; drawer = newIn s x ws (wordAt s 16) p }) (sp .at)))
         (drawer-of width (newIn s x ws (wordAt s 16) (linkAfter width (x % 16) (sp .front)))
-        (chg (chg (chainOf width (wordAt s) (records width s)) (x % 16) (sp .front ++ (wordAt s 16 ∷ sp .rest))) 16 (d .0))
+        (changed (changed (chainOf width (wordAt s) (records width s)) (x % 16) (sp .front ++ (wordAt s 16 ∷ sp .rest))) 16 (d .0))
         (new-view s (chainOf width (wordAt s) (records width s)) v x ws (x % 16) (wordAt s 16) (sp .front) (sp .rest) (d .0) (head-low x) refl (sp .cut) (d .1)
         (absent-at width s (chainOf width (wordAt s) (records width s)) v x f) fits long small sound))
 
@@ -70,7 +70,7 @@ forget-keeps s x z = go (isDrawer width s) refl (ℕ-discrete (recordOf width s 
         let b = stopped-at width (isStop width (wordAt s) false x) (wordAt s) (records width s) (records width s) (x % 16) (chainOf width (wordAt s) (records width s) (x % 16)) (v .spread .links (x % 16) (omega (arith, head-low x))) sp (omega arith) in
         subst (λ (l : Left). isDrawer width (l .drawer) ≡ true) (sym (forget-some s x r f ∙ ap (λ (p : ℕ). record { refusal = 0; drawer = goneFrom s (recordOf width s x) p }) (sp .at)))
         (drawer-of width (goneFrom s (recordOf width s x) (linkAfter width (x % 16) (sp .front)))
-        (chg (chg (chainOf width (wordAt s) (records width s)) (x % 16) (sp .front ++ b .0)) 16 (recordOf width s x ∷ chainOf width (wordAt s) (records width s) 16))
+        (changed (changed (chainOf width (wordAt s) (records width s)) (x % 16) (sp .front ++ b .0)) 16 (recordOf width s x ∷ chainOf width (wordAt s) (records width s) 16))
         (gone-view s (chainOf width (wordAt s) (records width s)) v (x % 16) (recordOf width s x) (sp .front) (b .0) (head-low x) (sp .cut ∙ ap (λ (l : List ℕ). sp .front ++ l) (b .1))))
 
 -- ---- as the contracts say it

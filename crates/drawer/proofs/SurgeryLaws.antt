@@ -16,14 +16,14 @@ use Rattle.drawer.proofs.WidthLaws.{same-record, past-heads}
 use Rattle.drawer.proofs.SpreadLaws.{Spread, flat-times, flat-two, flat-change}
 
 -- the chains with one of them changed
-abbrev pub chg : (ℕ → List ℕ) → ℕ → List ℕ → ℕ → List ℕ
-chg c k l j = cond (eqb j k) l (c j)
+abbrev pub changed : (ℕ → List ℕ) → ℕ → List ℕ → ℕ → List ℕ
+changed c k l j = cond (eqb j k) l (c j)
 
-pub chg-here : (c : ℕ → List ℕ) (k : ℕ) (l : List ℕ) → chg c k l k ≡ l
-chg-here c k l = rw (eq-eqb k k refl)
+pub changed-here : (c : ℕ → List ℕ) (k : ℕ) (l : List ℕ) → changed c k l k ≡ l
+changed-here c k l = rw (eq-eqb k k refl)
 
-pub chg-other : (c : ℕ → List ℕ) (k : ℕ) (l : List ℕ) (j : ℕ) → (j ≡ k → ⊥) → chg c k l j ≡ c j
-chg-other c k l j off = rw (ne-eqb j k off)
+pub changed-other : (c : ℕ → List ℕ) (k : ℕ) (l : List ℕ) (j : ℕ) → (j ≡ k → ⊥) → changed c k l j ≡ c j
+changed-other c k l j off = rw (ne-eqb j k off)
 
 module _ (width : ℕ) (w : ℕ → ℕ) (n : ℕ) (c : ℕ → List ℕ) (s : Spread width w n c) where
   at-most : (r : ℕ) → times r (flat c 17) ≤ 1
@@ -109,37 +109,37 @@ module _ (width : ℕ) (w : ℕ → ℕ) (n : ℕ) (c : ℕ → List ℕ) (s : S
   }
 
   -- two chains changed, k and 16
-  two : (k r : ℕ) (x y : List ℕ) → k < 16 → times r (flat (chg (chg c k x) 16 y) 17) + times r (c k) + times r (c 16) ≡ times r (flat c 17) + times r x + times r y
+  two : (k r : ℕ) (x y : List ℕ) → k < 16 → times r (flat (changed (changed c k x) 16 y) 17) + times r (c k) + times r (c 16) ≡ times r (flat c 17) + times r x + times r y
   two k r x y low =
       omega (
         arith,
-        flat-change c (chg c k x) 17 k r (omega arith) (λ j off. chg-other c k x j off),
-        flat-change (chg c k x) (chg (chg c k x) 16 y) 17 16 r (omega arith) (λ j off. chg-other (chg c k x) 16 y j off),
-        ap (times r) (chg-here c k x),
-        ap (times r) (chg-here (chg c k x) 16 y),
-        ap (times r) (chg-other c k x 16 (λ z. omega arith)),
+        flat-change c (changed c k x) 17 k r (omega arith) (λ j off. changed-other c k x j off),
+        flat-change (changed c k x) (changed (changed c k x) 16 y) 17 16 r (omega arith) (λ j off. changed-other (changed c k x) 16 y j off),
+        ap (times r) (changed-here c k x),
+        ap (times r) (changed-here (changed c k x) 16 y),
+        ap (times r) (changed-other c k x 16 (λ z. omega arith)),
       )
 
   two-links : (v : ℕ → ℕ) (k : ℕ) (x y : List ℕ) → Links width v k x → Links width v 16 y → ((j : ℕ) → j < 16 → (j ≡ k → ⊥) → Links width v j (c j)) → k < 16
-      → (j : ℕ) → j < 17 → Links width v j (chg (chg c k x) 16 y j)
+      → (j : ℕ) → j < 17 → Links width v j (changed (changed c k x) 16 y j)
   two-links v k x y at-k at-16 others low j h = go (ℕ-discrete j 16) (ℕ-discrete j k)
     where
-      go : Dec (j ≡ 16) → Dec (j ≡ k) → Links width v j (chg (chg c k x) 16 y j)
-      go (yes e) d = subst (λ (i : ℕ). Links width v i (chg (chg c k x) 16 y i)) (sym e) (subst (λ (l : List ℕ). Links width v 16 l) (sym (chg-here (chg c k x) 16 y)) at-16)
+      go : Dec (j ≡ 16) → Dec (j ≡ k) → Links width v j (changed (changed c k x) 16 y j)
+      go (yes e) d = subst (λ (i : ℕ). Links width v i (changed (changed c k x) 16 y i)) (sym e) (subst (λ (l : List ℕ). Links width v 16 l) (sym (changed-here (changed c k x) 16 y)) at-16)
       go (no e) (yes z) =
-          subst (λ (l : List ℕ). Links width v j l) (sym (chg-other (chg c k x) 16 y j e))
-          (subst (λ (i : ℕ). Links width v i (chg c k x i)) (sym z) (subst (λ (l : List ℕ). Links width v k l) (sym (chg-here c k x)) at-k))
+          subst (λ (l : List ℕ). Links width v j l) (sym (changed-other (changed c k x) 16 y j e))
+          (subst (λ (i : ℕ). Links width v i (changed c k x i)) (sym z) (subst (λ (l : List ℕ). Links width v k l) (sym (changed-here c k x)) at-k))
       go (no e) (no z) =
-          subst (λ (l : List ℕ). Links width v j l) (sym (chg-other (chg c k x) 16 y j e ∙ chg-other c k x j z)) (others j (omega arith) z)
+          subst (λ (l : List ℕ). Links width v j l) (sym (changed-other (changed c k x) 16 y j e ∙ changed-other c k x j z)) (others j (omega arith) z)
 
   -- ---- a save of a new id: the head f of the free chain goes into chain k after a
   pub saved : (v : ℕ → ℕ) (k f : ℕ) (a b d : List ℕ) → k < 16 → c k ≡ a ++ b → c 16 ≡ f ∷ d
       → v (linkAfter width k a) ≡ f → v (width * f) ≡ w (linkAfter width k a) → v 16 ≡ w (width * f)
       → ((j : ℕ) → j < 16 → (j ≡ linkAfter width k a → ⊥) → v j ≡ w j)
       → ((r : ℕ) → 0 < r → (r ≡ f → ⊥) → (width * r ≡ linkAfter width k a → ⊥) → v (width * r) ≡ w (width * r))
-      → Spread width v n (chg (chg c k (a ++ (f ∷ b))) 16 d)
+      → Spread width v n (changed (changed c k (a ++ (f ∷ b))) 16 d)
   saved v k f a b d low cut free to from head heads recs =
-      moved v (chg (chg c k (a ++ (f ∷ b))) 16 d)
+      moved v (changed (changed c k (a ++ (f ∷ b))) 16 d)
       (two-links v k (a ++ (f ∷ b)) d
       (insert width w v k f a b (subst (λ (l : List ℕ). Links width w k l) cut (s .links k (omega arith))) (pos width w n c s 16 f (omega arith) free-f) to from
       (the-front v k f a b low cut heads recs (λ r x e. clash k r (omega arith) (λ z. omega arith) (in-front v k f a b low cut heads recs r x) e))
@@ -168,9 +168,9 @@ module _ (width : ℕ) (w : ℕ → ℕ) (n : ℕ) (c : ℕ → List ℕ) (s : S
       → v (linkAfter width k a) ≡ w (width * f) → v (width * f) ≡ w 16 → v 16 ≡ f
       → ((j : ℕ) → j < 16 → (j ≡ linkAfter width k a → ⊥) → v j ≡ w j)
       → ((r : ℕ) → 0 < r → (r ≡ f → ⊥) → (width * r ≡ linkAfter width k a → ⊥) → v (width * r) ≡ w (width * r))
-      → Spread width v n (chg (chg c k (a ++ b)) 16 (f ∷ c 16))
+      → Spread width v n (changed (changed c k (a ++ b)) 16 (f ∷ c 16))
   forgotten v k f a b low cut over from head heads recs =
-      moved v (chg (chg c k (a ++ b)) 16 (f ∷ c 16))
+      moved v (changed (changed c k (a ++ b)) 16 (f ∷ c 16))
       (two-links v k (a ++ b) (f ∷ c 16)
       (remove width w v k f a b (subst (λ (l : List ℕ). Links width w k l) cut (s .links k (omega arith))) over
       (the-front v k f a (f ∷ b) low cut heads recs (λ r x e. in-a r x e))

@@ -10,10 +10,11 @@ use native.Mathlib.Decide.{ℕ-discrete}
 use borrow.Author.Tests.{ltb-true, eqb-true}
 use lib.Dec.{eqb, ltb}
 use lib.ListN.{getD}
+use Rattle.numbers.proofs.TestLaws.{and-right}
 use Rattle.drawer.specs.Drawer.{idIn}
 use Rattle.drawer.specs.Tours.{isPlaced, tourFrom, hasFrom, twiceFrom, amongFirst}
 use Rattle.drawer.specs.Search.{isRecord}
-use Rattle.drawer.proofs.TestLaws.{and-right, clash}
+use Rattle.drawer.proofs.TestLaws.{clash}
 
 module _ (width : ℕ) (w : ℕ → ℕ) (n k : ℕ) where
   pub tour-end : (m r count last prev : ℕ) (up : Bool) → 0 < m → eqb r 0 ≡ true

@@ -9,8 +9,8 @@ use lib.Dec.{eqb, ltb, leb}
 use lib.ListN.{length}
 use borrow.Author.Tests.{eq-eqb, lt-ltb, le-leb}
 use Rattle.words.specs.Words.{wordAt}
+use Rattle.numbers.proofs.TestLaws.{and-left, and-right, and-both}
 use Rattle.drawer.specs.Chains.{walk, times}
-use Rattle.drawer.proofs.TestLaws.{and-left, and-right, and-both}
 use Rattle.drawer.proofs.TimesLaws.{times-here, times-more}
 use Rattle.drawer.proofs.Links.{Links, linkAfter}
 use Rattle.drawer.specs.Drawer.{chainOf, isChain, areChains, isSpread, isFilled, recordsOf, isWhole, isDrawer}

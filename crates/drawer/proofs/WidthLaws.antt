@@ -19,7 +19,7 @@ pub next-record : (width r n : ℕ) → r < n → width * r + width ≤ width * 
 next-record width r n h = omega (arith, mul-suc width r, mul-le-mul-left {m = suc r} {n = n} width h)
 
 -- the words of a drawer are numbers of 32 bits, and more
-pub all-records : (width r n : ℕ) → width ≤ 64 → r < n → n ≤ 65536 → width * r + width ≤ 4194304
+all-records : (width r n : ℕ) → width ≤ 64 → r < n → n ≤ 65536 → width * r + width ≤ 4194304
 all-records width r n narrow h most = omega (arith, next-record width r n h, mul-le-mul {n₁ = width} {m₁ = n} {n₂ = 64} {m₂ = 65536} narrow most)
 
 pub stands : (width r n : ℕ) (s : List ℕ) → Sized width n s → r < n → Stands width r s

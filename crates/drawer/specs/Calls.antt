@@ -20,17 +20,17 @@ pub record Left : Type 0 where
   pub drawer : List ℕ
 
 -- ---- lay
+-- the free records are chained 1, 2, 3, ..; the last names none
+abbrev pub nextFree : ℕ → ℕ → ℕ
+nextFree n r = cond (ltb (r + 1) n) (r + 1) 0
+
 -- "the heads of 16 chains .., the head of the chain of free records, and the record length in bytes, then zeros"
 abbrev pub firstWords : ℕ → List ℕ
-firstWords n = replicate 16 0 ++ (cond (ltb 1 n) 1 0 ∷ 4 * width ∷ replicate (width - 18) 0)
+firstWords n = replicate 16 0 ++ (nextFree n 0 ∷ 4 * width ∷ replicate (width - 18) 0)
 
 -- "a free one has zeros after its index"
 abbrev pub freeWords : ℕ → List ℕ
 freeWords next = next ∷ replicate (width - 1) 0
-
--- the free records are chained 1, 2, 3, ..; the last names none
-abbrev pub nextFree : ℕ → ℕ → ℕ
-nextFree n r = cond (ltb (r + 1) n) (r + 1) 0
 
 -- the words of the first m records of a fresh drawer of n
 unfoldable pub freshTo : ℕ → ℕ → List ℕ

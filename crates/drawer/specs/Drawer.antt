@@ -25,7 +25,7 @@ eachOnce l (suc r) = eqb (times (suc r) l) 1 && eachOnce l r
 unfoldable pub isSpread : ℕ → (ℕ → ℕ) → ℕ → Bool
 isSpread width w n = eqb (length (flat (chainOf width w n) 17)) (n - 1) && eachOnce (flat (chainOf width w n) 17) (n - 1)
 
--- "holds an id twice"
+-- "holds an id twice": asked within a chain, since two chains cannot share an id that is under its head
 unfoldable pub hasId : ℕ → (ℕ → ℕ) → ℕ → List ℕ → Bool
 hasId width w x [] = false
 hasId width w x (r ∷ l) = eqb (idIn width w r) x || hasId width w x l

@@ -9,7 +9,7 @@ use lib.ListN.{length, getD}
 use Rattle.words.specs.Words.{wordAt, bytesOf}
 use Rattle.records.specs.Record.{isDamaged}
 use Rattle.records.specs.Tidied.{tidied}
-use Rattle.drawer.specs.Chains.{walk}
+use Rattle.drawer.specs.Drawer.{chainOf}
 use Rattle.drawer.specs.Search.{records}
 use Rattle.drawer.specs.Order.{Ascends}
 use Rattle.drawer.specs.Calls.{width, saveOn, loadOn, forgetOn}
@@ -40,7 +40,7 @@ pub record Answer : Type 0 where
   pub refusal : ℕ
   pub held : Held
 
--- ---- what the drawer does
+-- ---- what the drawer does; what a load answers does not depend on what it was handed, and it only reads the drawer
 abbrev pub answerOn : List ℕ → Call → Answer
 answerOn s (save x st) = record { refusal = saveOn s x st .refusal; held = nothing }
 answerOn s (load x) = record { refusal = loadOn s x [] .refusal; held = cond (eqb (loadOn s x [] .refusal) 0) (state (loadOn s x [] .state)) nothing }
@@ -78,7 +78,7 @@ abbrev pub isHeld : Held → Bool
 isHeld nothing = false
 isHeld (state b) = true
 
--- how many ids are held
+-- how many ids are held; only an id that is held is forgotten
 unfoldable pub heldIds : List Event → ℕ
 heldIds [] = 0
 heldIds (saved x st ∷ h) = cond (isHeld (lastSaved h x)) (heldIds h) (heldIds h + 1)
@@ -118,4 +118,4 @@ AllDrawerLists s = (calls : List Call) → AreCalls calls → answersOn s calls 
 abbrev pub AllAscend : List ℕ → Type 0
 AllAscend s =
     (calls : List Call) → AreCalls calls → (k : ℕ) → k < 16
-    → Ascends width (wordAt (leftAfter s calls)) (walk width (wordAt (leftAfter s calls)) (records width (leftAfter s calls)) k)
+    → Ascends width (wordAt (leftAfter s calls)) (chainOf width (wordAt (leftAfter s calls)) (records width (leftAfter s calls)) k)

@@ -11,7 +11,8 @@ use Rattle.drawer.specs.Drawer.{idIn, recordsOf}
 abbrev pub isRecord : ℕ → ℕ → Bool
 isRecord n r = ltb 0 r && ltb r n
 
--- the link at which a search from the link at word p stops, within m records: it names no record of the n, or one at which the test stops
+-- the link at which a search from the link at word p stops, within m records: it names no record of the n, or one at which the test stops.
+-- In a drawer a link names a record or is 0; the search is defined for any bytes
 unfoldable pub seek : ℕ → (ℕ → Bool) → (ℕ → ℕ) → ℕ → ℕ → ℕ → ℕ
 seek width stop w n zero p = p
 seek width stop w n (suc m) p = cond (isRecord n (w p)) (cond (stop (w p)) p (seek width stop w n m (width * w p))) p

@@ -14,7 +14,7 @@ use Rattle.drawer.specs.declared.tour.Tour.{Tour}
 abbrev pub Sized : ℕ → ℕ → List ℕ → Type 0
 Sized width n s = (42 ≤ width) × (width ≤ 64) × (n ≤ 65536) × (length s ≡ 4 * (width * n))
 
--- record r is there
+-- record r is there; 65,536 records of 64 words are 4,194,304
 abbrev pub Stands : ℕ → ℕ → List ℕ → Type 0
 Stands width r s = (42 ≤ width) × (width * r + width ≤ 4194304) × (4 * (width * r + width) ≤ length s)
 

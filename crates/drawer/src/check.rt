@@ -1,4 +1,4 @@
-// What 13 refuses, found in one walk over every chain, with no memory but the last record of each.
+// What 13 refuses, found in one walk over every chain, and in pairs where ids do not ascend, with no memory but the last record of each.
 ghost use mathlib.Core.Path.{_≡_};
 ghost use Prim.Native.Nat.{_*_, _<_, _≤_};
 ghost use Rattle.words.specs.Words.{wordAt};

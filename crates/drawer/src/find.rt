@@ -6,7 +6,7 @@ ghost use Rattle.words.specs.Words.{wordAt};
 ghost use Rattle.drawer.specs.Drawer.{isDrawer};
 ghost use Rattle.drawer.specs.Search.{stopsAt, isStop, seek, records};
 ghost use Rattle.drawer.specs.Tours.{Sized};
-ghost use Rattle.drawer.specs.Calls.{width};
+ghost use Rattle.drawer.specs.Calls as Spec;
 use crate::check::WIDTH;
 use crate::check::records_of;
 use crate::tour::id_in;
@@ -15,9 +15,9 @@ use words::word;
 
 // In a drawer.
 pub fn link_in(drawer: &[u8], larger: bool, x: u64) -> u32
-    requires { ⌜ isDrawer width (now drawer) ≡ true ⌝ }
-    ensures { λ p. ⌜ p ≡ seek width (isStop width (wordAt (now (drawer .entry))) larger x) (wordAt (now (drawer .entry)))
-        (records width (now (drawer .entry))) (records width (now (drawer .entry))) (x % 16) ⌝ }
+    requires { ⌜ isDrawer Spec.width (now drawer) ≡ true ⌝ }
+    ensures { λ p. ⌜ p ≡ seek Spec.width (isStop Spec.width (wordAt (now (drawer .entry))) larger x) (wordAt (now (drawer .entry)))
+        (records Spec.width (now (drawer .entry))) (records Spec.width (now (drawer .entry))) (x % 16) ⌝ }
 {
     let n = records_of(WIDTH, drawer.len()) as u32;
     link_to(drawer, WIDTH, n, larger, x)

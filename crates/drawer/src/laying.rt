@@ -1,8 +1,7 @@
 // A fresh drawer.
 ghost use mathlib.Core.Path.{_≡_};
-ghost use mathlib.Core.Bool.{true, cond};
+ghost use mathlib.Core.Bool.{true};
 ghost use Prim.Native.Nat.{_*_, _<_, _≤_};
-ghost use lib.Dec.{ltb};
 ghost use lib.ListN.{length};
 ghost use Rattle.words.specs.Words.{bytesOf, putAt};
 ghost use Rattle.drawer.specs.Drawer.{isDrawer};
@@ -43,23 +42,13 @@ fn fill(drawer: &mut [u8], n: usize)
 
 // Record 0: no head but that of the free chain, and the record's length in bytes.
 fn put_first(drawer: &mut [u8], n: usize)
-    requires { ⌜ 4 * width ≤ length (now drawer) ⌝ }
+    requires { ⌜ (4 * width ≤ length (now drawer)) × (0 < n) × (n ≤ 65536) ⌝ }
     ensures { λ _. ⌜ now (drawer .exit) ≡ putAt 0 (firstWords n) (now (drawer .entry)) ⌝ }
 {
     let mut words: [u32; 42] = [0; 42];
-    words[16] = first_free(n);
-    words[17] = 168;
+    words[16] = next_free(n, 0);
+    words[17] = 4 * WIDTH;
     words::put(drawer, 0, &words);
-}
-
-fn first_free(n: usize) -> u32
-    ensures { λ r. ⌜ r ≡ cond (ltb 1 n) 1 0 ⌝ }
-{
-    let more = 1 < n;
-    if more {
-        return 1;
-    }
-    0
 }
 
 fn next_free(n: usize, r: usize) -> u32

@@ -5,6 +5,7 @@ ghost use Prim.Native.Nat.{_+_, _*_, _/_, _%_, _≤_};
 ghost use lib.ListN.{length};
 ghost use Rattle.words.specs.Words.{putAt};
 ghost use Rattle.drawer.specs.Calls.{width, freeWords};
+use crate::check::WIDTH;
 
 // A free record: its next index, then zeros.
 pub fn put_free(drawer: &mut [u8], r: usize, next: u32)
@@ -13,7 +14,7 @@ pub fn put_free(drawer: &mut [u8], r: usize, next: u32)
 {
     let mut words: [u32; 42] = [0; 42];
     words[0] = next;
-    words::put(drawer, 42 * r, &words);
+    words::put(drawer, (WIDTH as usize) * r, &words);
 }
 
 pub fn put_word(drawer: &mut [u8], at: usize, value: u32)

@@ -1,6 +1,7 @@
 // The calls on a drawer, one lent buffer that holds the states of a panel's lists by id.
 ghost use mathlib.Core.Path.{_≡_};
 ghost use mathlib.Core.Bool.{true};
+ghost use Rattle.records.specs.Tidied.{TidiedHolds};
 ghost use Rattle.drawer.specs.Drawer.{isDrawer};
 ghost use Rattle.drawer.specs.Calls as Spec;
 ghost use Rattle.drawer.specs.Lists.{AllDrawerLists, AllAscend};
@@ -25,9 +26,12 @@ pub extern "C" fn strakobud_drawer_save(drawer: &mut [u8], id: u64, state: &[u8;
     drawer::save(drawer, id, state)
 }
 
+// What is handed out stands for the state that was saved, and is the very record where the library wrote it.
 #[no_mangle]
 pub extern "C" fn strakobud_drawer_load(drawer: &[u8], id: u64, state: &mut [u8; 156]) -> u32
-    ensures { λ r. ⌜ record { refusal = r; state = now (state .exit) } ≡ Spec.loadOn (now (drawer .entry)) id (now (state .entry)) ⌝ }
+    ensures answers { λ r. ⌜ record { refusal = r; state = now (state .exit) }
+        ≡ Spec.loadOn (now (drawer .entry)) id (now (state .entry)) ⌝ }
+    ensures stands { λ _. ⌜ TidiedHolds ⌝ }
 {
     drawer::load(drawer, id, state)
 }

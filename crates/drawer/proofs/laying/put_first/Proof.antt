@@ -2,11 +2,14 @@ use borrow.Author.Needs.{needs}
 use Rattle.drawer.proofs.laying.put_first.Statement.{statement}
 use Rattle.drawer.proofs.laying.put_first.Tie as tie
 
-first-free-requires : tie.Need-first-free-requires
-first-free-requires c κs = search needs
+next-free-requires : tie.Need-next-free-requires
+next-free-requires c κs = search needs
 
 array-write-words : tie.Need-array-write-words
 array-write-words c = search needs
+
+mul-words : tie.Need-mul-words
+mul-words c = search needs
 
 array-write-words-2 : tie.Need-array-write-words-2
 array-write-words-2 c = search needs
@@ -21,14 +24,15 @@ same-length : tie.Need-same-length
 same-length c = search needs
 
 returns : tie.Need-returns
-returns c = rw (c .before .before .put .ensures, c .before .before .before .before .before .first-free .ensures)
+returns c = rw (c .before .before .put .ensures, c .before .before .before .before .before .next-free .ensures)
 
 pub put-first-spec : {M : Type 1} → statement M
 put-first-spec =
     tie.close
     (tie.spec
-    first-free-requires
+    next-free-requires
     array-write-words
+    mul-words
     array-write-words-2
     slice-aggregate-put
     put-requires

@@ -6,6 +6,7 @@ use Rattle.drawer.specs.Search.{recordOf}
 use Rattle.drawer.specs.Calls.{width, loadOn}
 use lib.ListN.{length}
 use Rattle.records.proofs.TidiedLaws.{tidied-length}
+use Rattle.records.proofs.TidiedWrittenLaws.{tidied-holds}
 use Rattle.drawer.proofs.CaseLaws.{whole-put}
 use Rattle.drawer.proofs.FoundLaws.{found-room}
 use borrow.Author.Needs.{needs}
@@ -17,7 +18,7 @@ is-drawer-requires c κs = search needs
 
 returns : tie.Need-returns
 unfolding loadOn
-returns c = rw (← c .before .is-drawer .ensures, not-true (c .before .is-drawer .result) (c .if1 .taken))
+returns c = (rw (← c .before .is-drawer .ensures, not-true (c .before .is-drawer .result) (c .if1 .taken)), tidied-holds)
 
 link-in-requires : tie.Need-link-in-requires
 link-in-requires c κs = sym (c .before .is-drawer .ensures) ∙ not-false (c .before .is-drawer .result) (c .if1 .left)
@@ -30,7 +31,7 @@ unfolding loadOn
 returns-2 c =
     let a = c .before .before .before .before .before .before .args in
     let named : c .before .word .result ≡ recordOf width (a .drawer .now) (a .id) = c .before .word .ensures ∙ ap (wordAt (a .drawer .now)) (c .before .before .link-in .ensures) in
-    rw (← c .before .before .before .before .is-drawer .ensures, not-false (c .before .before .before .before .is-drawer .result) (c .before .before .before .if1 .left), ← named, c .if2 .taken)
+    (rw (← c .before .before .before .before .is-drawer .ensures, not-false (c .before .before .before .before .is-drawer .result) (c .before .before .before .if1 .left), ← named, c .if2 .taken), tidied-holds)
 
 mul-tidied : tie.Need-mul-tidied
 mul-tidied c =
@@ -72,15 +73,17 @@ returns-3 c =
     let named : c .before .before .before .before .before .word .result ≡ recordOf width (a .drawer .now) (a .id) = c .before .before .before .before .before .word .ensures ∙ ap (wordAt (a .drawer .now)) (c .before .before .before .before .before .before .link-in .ensures) in
     let ws = c .before .before .before .tidied .result in
     let long : length (a .state .now) ≡ 156 = search needs in
-    let many : length ws ≡ 39 = ap length (c .before .before .before .tidied .ensures .0) ∙ tidied-length _ _ in
-    rw (
-      ← c .before .before .before .before .before .before .before .before .is-drawer .ensures,
-      not-false (c .before .before .before .before .before .before .before .before .is-drawer .result) (c .before .before .before .before .before .before .before .if1 .left),
-      ← named,
-      c .before .before .before .before .if2 .left,
-      c .put .ensures,
-      whole-put ws (a .state .now) (omega (arith, long, many)),
-      c .before .before .before .tidied .ensures .0,
+    let many : length ws ≡ 39 = ap length (c .before .before .before .tidied .ensures .0) ∙ tidied-length _ _ in (
+      rw (
+        ← c .before .before .before .before .before .before .before .before .is-drawer .ensures,
+        not-false (c .before .before .before .before .before .before .before .before .is-drawer .result) (c .before .before .before .before .before .before .before .if1 .left),
+        ← named,
+        c .before .before .before .before .if2 .left,
+        c .put .ensures,
+        whole-put ws (a .state .now) (omega (arith, long, many)),
+        c .before .before .before .tidied .ensures .0,
+      ),
+      tidied-holds,
     )
 
 pub load-spec : {M : Type 1} → statement M

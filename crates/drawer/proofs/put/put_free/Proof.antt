@@ -5,6 +5,9 @@ use Rattle.drawer.proofs.put.put_free.Tie as tie
 array-write-words : tie.Need-array-write-words
 array-write-words c = search needs
 
+cast-put : tie.Need-cast-put
+cast-put c = search needs
+
 mul-put : tie.Need-mul-put
 mul-put c = search needs
 
@@ -21,4 +24,4 @@ returns : tie.Need-returns
 returns c = rw (c .before .before .put .ensures)
 
 pub put-free-spec : {M : Type 1} → statement M
-put-free-spec = tie.close (tie.spec array-write-words mul-put slice-aggregate-put put-requires same-length returns)
+put-free-spec = tie.close (tie.spec array-write-words cast-put mul-put slice-aggregate-put put-requires same-length returns)
