@@ -9,13 +9,6 @@ use oracle::drawer_vectors::{Call, Kept, UNWRITTEN};
 use crate::guarded::Guarded;
 use crate::tally::{End, Part, Tally};
 
-extern "C" {
-    fn strakobud_drawer_lay(drawer: *mut u8, len: usize) -> u32;
-    fn strakobud_drawer_save(drawer: *mut u8, len: usize, id: u64, state: *const u8) -> u32;
-    fn strakobud_drawer_load(drawer: *const u8, len: usize, id: u64, state: *mut u8) -> u32;
-    fn strakobud_drawer_forget(drawer: *mut u8, len: usize, id: u64) -> u32;
-}
-
 /// The library's side: the drawer, the state of the last call, and how many calls there were.
 struct Library {
     drawer: Guarded,
@@ -46,10 +39,8 @@ impl Library {
             _ => &UNWRITTEN,
         };
         self.state = Guarded::of(given, self.calls / 3);
-        let state = self.state.bytes_mut().as_mut_ptr();
-        let len = self.drawer.bytes().len();
         let drawer = self.drawer.bytes_mut();
-        // The state has 156 bytes, and no other reference to either lives.
+        let state: &mut StateBytes = self.state.bytes_mut().try_into().expect("a state's record");
         match call {
             Call::Given(bytes) => {
                 self.lend(bytes);
@@ -59,12 +50,10 @@ impl Library {
                 drawer[*place..*place + 4].copy_from_slice(word);
                 0
             }
-            Call::Lay => unsafe { strakobud_drawer_lay(drawer.as_mut_ptr(), len) },
-            Call::Save(id, _) => unsafe {
-                strakobud_drawer_save(drawer.as_mut_ptr(), len, *id, state)
-            },
-            Call::Load(id) => unsafe { strakobud_drawer_load(drawer.as_ptr(), len, *id, state) },
-            Call::Forget(id) => unsafe { strakobud_drawer_forget(drawer.as_mut_ptr(), len, *id) },
+            Call::Lay => strakobud::drawer_lay(drawer),
+            Call::Save(id, _) => strakobud::drawer_save(drawer, *id, state),
+            Call::Load(id) => strakobud::drawer_load(drawer, *id, state),
+            Call::Forget(id) => strakobud::drawer_forget(drawer, *id),
         }
     }
 

@@ -1,4 +1,5 @@
-//! Every drawer of up to four records with ids 0, 1 and 16: every way to write its links, and every list of three calls on those that are good.
+//! Every drawer of up to four records with ids 0, 1 and 16: every way to write the links of its records and of heads 0, 1 and 16, with one call of
+//! each kind; and every list of three calls on those that are good and whose free records have id 0.
 
 use oracle::clock::StateBytes;
 use oracle::drawer::{chains_of, faults, LENGTH_WORD, RECORD, STATE_WORD};

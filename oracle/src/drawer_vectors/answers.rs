@@ -61,7 +61,7 @@ fn answer(kept: &mut Kept, call: &Call) -> Answer {
     Answer { refusal, line }
 }
 
-/// A mark in which every byte and its place shows: odd factors lose nothing.
+/// A mark in which one changed byte always shows: odd factors lose nothing.
 pub fn mark(bytes: &[u8]) -> u32 {
     bytes.iter().fold(2_166_136_261, |mark: u32, byte| {
         mark.wrapping_mul(16_777_619).wrapping_add(u32::from(*byte))
