@@ -190,7 +190,7 @@ uint32_t strakobud_drawer_save(uint8_t *drawer, size_t len, uint64_t id, const u
  * the call is fresh after a 14, as the first frame of a list wants it. */
 uint32_t strakobud_drawer_load(const uint8_t *drawer, size_t len, uint64_t id, uint8_t state[STRAKOBUD_STATE_BYTES]);
 
-/* Takes out an id with its state. Its record has zeros then, and is the first free one. 0, 13 or 14. */
+/* Takes out an id with its state. Its record has zeros after its index then, and is the first free one. 0, 13 or 14. */
 uint32_t strakobud_drawer_forget(uint8_t *drawer, size_t len, uint64_t id);
 
 /* One axis by itself. A call begins with bounds min, bounds max, extent, decay_time, stop_distance, rubber_band. On a
