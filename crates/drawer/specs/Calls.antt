@@ -1,10 +1,10 @@
 -- The four calls, each as an equation over all bytes.
 use mathlib.Core.Bool.{cond}
 use mathlib.Core.List.{List, [], _∷_, _++_}
-use Prim.Native.Nat.{ℕ, zero, suc, _+_, _-_, _*_, _/_, _%_}
+use Prim.Native.Nat.{ℕ, zero, suc, _+_, _-_, _*_}
 use lib.Dec.{eqb, ltb}
 use lib.ListN.{length, replicate}
-use Rattle.words.specs.Words.{wordAt, bytesOf, putAt}
+use Rattle.words.specs.Words.{wordAt, longWords, bytesOf, putAt}
 use Rattle.records.specs.Record.{isDamaged}
 use Rattle.records.specs.Tidied.{tidied}
 use Rattle.drawer.specs.Drawer.{isWhole, isDrawer}
@@ -68,7 +68,7 @@ unfoldable pub newIn : List ℕ → ℕ → List ℕ → ℕ → ℕ → List �
 newIn s x words f p =
     putAt p (f ∷ [])
     (putAt (width * f + 3) words
-    (putAt (width * f) (wordAt s p ∷ x % 4294967296 ∷ x / 4294967296 ∷ [])
+    (putAt (width * f) (wordAt s p ∷ longWords x)
     (putAt 16 (wordAt s (width * f) ∷ []) s)))
 
 abbrev pub newOn : List ℕ → ℕ → List ℕ → Left

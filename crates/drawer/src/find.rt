@@ -13,16 +13,6 @@ use crate::tour::id_in;
 use crate::tour::is_record;
 use words::word;
 
-// In a drawer.
-pub fn link_in(drawer: &[u8], larger: bool, x: u64) -> u32
-    requires { ⌜ isDrawer Spec.width (now drawer) ≡ true ⌝ }
-    ensures { λ p. ⌜ p ≡ seek Spec.width (isStop Spec.width (wordAt (now (drawer .entry))) larger x) (wordAt (now (drawer .entry)))
-        (records Spec.width (now (drawer .entry))) (records Spec.width (now (drawer .entry))) (x % 16) ⌝ }
-{
-    let n = records_of(WIDTH, drawer.len()) as u32;
-    link_to(drawer, WIDTH, n, larger, x)
-}
-
 // The link that names the record of id x, or the first with a larger id; or that ends the chain.
 fn link_to(s: &[u8], width: u32, n: u32, larger: bool, x: u64) -> u32
     requires { ⌜ Sized width n (now s) ⌝ }
@@ -44,6 +34,16 @@ fn link_to(s: &[u8], width: u32, n: u32, larger: bool, x: u64) -> u32
         left -= 1;
     }
     p
+}
+
+// The same in a drawer.
+pub fn link_in(drawer: &[u8], larger: bool, x: u64) -> u32
+    requires { ⌜ isDrawer Spec.width (now drawer) ≡ true ⌝ }
+    ensures { λ p. ⌜ p ≡ seek Spec.width (isStop Spec.width (wordAt (now (drawer .entry))) larger x) (wordAt (now (drawer .entry)))
+        (records Spec.width (now (drawer .entry))) (records Spec.width (now (drawer .entry))) (x % 16) ⌝ }
+{
+    let n = records_of(WIDTH, drawer.len()) as u32;
+    link_to(drawer, WIDTH, n, larger, x)
 }
 
 fn is_stop(larger: bool, x: u64, id: u64) -> bool
