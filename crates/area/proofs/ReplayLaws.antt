@@ -1,6 +1,6 @@
 -- What a loop over a list of calls in bytes knows before, between and after its turns. Assumes nothing.
 use Rattle.core.specs.Prelude.{◌≡◌, ℕ, zero, suc, ◌+◌, ◌-◌, ◌<◌, ◌≤◌, Bool, true, false, cond, eqb, List, [], ◌∷◌, ◌++◌, length, get_or, take, drop, set}
-use native.Mathlib.Numerals.{add_one}
+use native.Mathlib.Numerals.{add-one}
 use native.Mathlib.Omega.{arith}
 use mathlib.Core.Path.{refl, sym, ap, subst, ◌∙◌}
 use mathlib.Core.List.{append_assoc, append-nil}
@@ -23,7 +23,7 @@ calls_next : (calls : List ℕ) (at end n : ℕ) → at < length calls → Part 
     → calls_up_to (suc n) (drop at calls) ≡ call_by (get_or calls at 0) (take (end - (at + 1)) (drop (at + 1) calls)) ∷ calls_up_to n (drop end calls)
 calls_next calls at end n h p =
     ap (calls_up_to (suc n)) (drop-cons calls at 0 h)
-    ∙ ap (λ (k : ℕ). call_by (get_or calls at 0) (take frame_length (drop k calls)) ∷ calls_up_to n (drop frame_length (drop k calls))) (sym (add_one at))
+    ∙ ap (λ (k : ℕ). call_by (get_or calls at 0) (take frame_length (drop k calls)) ∷ calls_up_to n (drop frame_length (drop k calls))) (sym (add-one at))
     ∙ (λ i. call_by (get_or calls at 0) (sym p.frame i) ∷ calls_up_to n (sym p.rest i))
 
 calls_none : (n : ℕ) → calls_up_to n [] ≡ []

@@ -1,6 +1,6 @@
 -- A settling run is the list of its frames, and what holds of every run. Assumes nothing.
 use Rattle.core.specs.Prelude.{◌≡◌, ℕ, zero, suc, ◌+◌, ◌≤◌, Bool, true, false, cond, ◌&&◌, eqb, List, [], ◌∷◌, length}
-use native.Mathlib.Numerals.{add_one}
+use native.Mathlib.Numerals.{add-one}
 use native.Mathlib.Omega.{arith}
 use mathlib.Core.Path.{refl, sym, ap, ◌∙◌}
 use mathlib.Core.Bool.{true≢false}
@@ -46,7 +46,7 @@ come_accepted table S bytes rest a =
     let others = accepted_from r.state rest in
     let last = last_of r (answers_from r.state rest) (eqb-true r.outcome.refusal 0 a) in
     let one_more : length (accepted_from S (fed ∷ rest)) ≡ length others + 1 =
-    ap (λ (t : Bool). length (cond t (fed ∷ others) others)) a ∙ sym (add_one (length others)) in
+    ap (λ (t : Bool). length (cond t (fed ∷ others) others)) a ∙ sym (add-one (length others)) in
     λ i. record { refusal = last i; used = one_more i; state = state_from r.state rest }
 
 -- ---- how a run of at most n frames goes, with what it answers and the frames that it tries

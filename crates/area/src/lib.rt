@@ -1,4 +1,6 @@
 // A scroll area: its state, the frame that a host hands in, and the checks on both.
+#![tactic(auto)]
+
 mod adjust;
 mod axis_physics;
 mod bar;

@@ -4,7 +4,7 @@ use mathlib.Core.Bool.{true, cond}
 use mathlib.Core.List.{List, [], ◌∷◌, ◌++◌}
 use mathlib.Core.Logic.{◌⊎◌, inl, inr}
 use Prim.Native.Nat.{ℕ, zero, suc, ◌+◌, ◌-◌, ◌*◌, ◌<◌, ◌≤◌}
-use native.Mathlib.Numerals.{add_one}
+use native.Mathlib.Numerals.{add-one}
 use native.Mathlib.Omega.{arith}
 use native.Mathlib.Decide.{ℕ_discrete}
 use lib.Dec.{eqb, ltb}
@@ -134,7 +134,7 @@ module _ (n : ℕ) (some : 0 < n) (most : n ≤ 65536) where
   up_links (suc m) r p e h w = (
     w ∙ rw (lt-ltb r n (omega arith)),
     h,
-    up_links m (suc r) (width * r) (omega arith) (omega arith) (word_next r h (omega arith) ∙ ap (λ (i : ℕ). cond (ltb i n) i 0) (add_one r)),
+    up_links m (suc r) (width * r) (omega arith) (omega arith) (word_next r h (omega arith) ∙ ap (λ (i : ℕ). cond (ltb i n) i 0) (add-one r)),
   )
 
   fresh_flat : flat fresh_chains 17 ≡ up 1 (n - 1)

@@ -4,7 +4,7 @@ use mathlib.Core.Bool.{Bool, true, false, cond, not, ◌&&◌, ◌||◌}
 use mathlib.Core.List.{List, [], ◌∷◌, ◌++◌}
 use Prim.Native.Nat.{ℕ, zero, suc, ◌+◌, ◌-◌, ◌*◌, ◌<◌, ◌≤◌}
 use native.Mathlib.Nat.{not-suc-le-zero, zero-add}
-use native.Mathlib.Numerals.{add_one}
+use native.Mathlib.Numerals.{add-one}
 use native.Mathlib.Omega.{arith}
 use native.Mathlib.Decide.{ℕ_discrete}
 use lib.Dec.{eqb}
@@ -254,7 +254,7 @@ module _ (width : ℕ) (w : ℕ → ℕ) (n : ℕ) (some : 0 < n) where
     ends = λ j x. ends j x (ℕ_discrete j k);
     apart = λ i j x y. apart i j x y (ℕ_discrete j k);
     counted = ap (λ (i : ℕ). i + t.count) p.counted ∙ ap (λ (i : ℕ). length (flat (chain_of width w n) k) + i) (ap (λ (y : Tour). y.count) q.3)
-        ∙ sym (length-append (flat (chain_of width w n) k) (walk width w n k)) ∙ ap (λ (i : ℕ). length (flat (chain_of width w n) i)) (sym (add_one k));
+        ∙ sym (length-append (flat (chain_of width w n) k) (walk width w n k)) ∙ ap (λ (i : ℕ). length (flat (chain_of width w n) i)) (sym (add-one k));
     long = length-set lasts k t.last ∙ p.long;
   }
     where

@@ -5,7 +5,7 @@ use mathlib.Core.List.{List}
 use Prim.Native.Nat.{ℕ, zero, suc, ◌+◌, ◌*◌, ◌<◌}
 use native.Mathlib.Omega.{arith}
 use native.Mathlib.Nat.{not-suc-le-zero}
-use native.Mathlib.Numerals.{add_one}
+use native.Mathlib.Numerals.{add-one}
 use native.Mathlib.Decide.{ℕ_discrete}
 use borrow.Author.Tests.{ltb-true, eqb-true}
 use lib.Dec.{eqb, ltb}
@@ -81,7 +81,7 @@ record_below n r e = ltb-true r n (and_right (ltb 0 r) (ltb r n) e)
 -- ---- the first k of a list
 pub among_none : (l : List ℕ) (x k : ℕ) → among_first l x k ≡ false → eqb (get_or l k 0) x ≡ false → among_first l x (k + 1) ≡ false
 unfolding among_first
-among_none l x k e f = rw (add_one k, f) e
+among_none l x k e f = rw (add-one k, f) e
 
 pub among_some : (l : List ℕ) (x k i : ℕ) → i < k → eqb (get_or l i 0) x ≡ true → among_first l x k ≡ true
 unfolding among_first

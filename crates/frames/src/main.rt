@@ -2,6 +2,8 @@
 // and a line each. A shorter last part is a frame refused with 1; after a refusal the line shows the state as given. The
 // first call is by value, the second lent, and so on by turns. An argument names the file of a table that serves in the
 // place of T; where it is refused, its number is all that is printed.
+#![tactic(auto)]
+
 mod line;
 mod table_file;
 

@@ -1,6 +1,8 @@
 // Every word of every answer: frames of 416 bytes from standard input, one after another from a fresh state, and a line
 // each: the refusal, the 39 words of the state, the 25 words of the outputs. It is held to the oracle's answers.
 // The first call is by value, the second lent, and so on by turns.
+#![tactic(auto)]
+
 mod print;
 mod print_outcome;
 mod print_state;

@@ -5,7 +5,7 @@ use mathlib.Core.Bool.{Bool, true, false, cond, ◌&&◌}
 use mathlib.Core.List.{List, [], ◌∷◌, ◌++◌}
 use Prim.Native.Nat.{ℕ, zero, suc, ◌+◌, ◌*◌, ◌/◌, ◌%◌, ◌^◌, ◌≤◌, ◌<◌, min}
 use native.Mathlib.Nat.{zero-add, add-zero, add-suc, suc-add, le_of_suc-le-suc, not-suc-le-zero}
-use native.Mathlib.Numerals.{add_one}
+use native.Mathlib.Numerals.{add-one}
 use native.Mathlib.Omega.{arith}
 use borrow.Author.Tests.{ltb-true}
 use lib.Dec.{eqb, ltb}
@@ -152,7 +152,7 @@ next_place k = omega arith
 
 table_next : (entry k : ℕ) → entry ≡ table_at k → entry * 48769 / 49537 ≡ table_at (k + 1)
 unfolding table_at
-table_next entry k e = ap (λ (n : ℕ). n * 48769 / 49537) e ∙ ap table_at (sym (add_one k))
+table_next entry k e = ap (λ (n : ℕ). n * 48769 / 49537) e ∙ ap table_at (sym (add-one k))
 
 pub turns : (before : List ℕ) (entry k : ℕ) (t after : List ℕ) → after ≡ put_at (2 * k) (long_words entry) t → k < 1025
     → Upto before entry k t → Upto before (entry * 48769 / 49537) (k + 1) after
@@ -167,7 +167,7 @@ turns before entry k t after e h u = go u.rest refl
       leads =
           ap (λ (a : List ℕ). put_parts (2 * (k + 1)) (parts n (k + 1)) a) (e ∙ ap (λ (v : ℕ). put_at (2 * k) (long_words v) t) u.is_entry)
           ∙ ap (λ (at : ℕ). put_parts at (parts n (k + 1)) (put_at (2 * k) (long_words (table_at k)) t)) (sym (next_place k))
-          ∙ ap (λ (j : ℕ). put_parts (2 * k + 2) (parts n j) (put_at (2 * k) (long_words (table_at k)) t)) (add_one k)
+          ∙ ap (λ (j : ℕ). put_parts (2 * k + 2) (parts n j) (put_at (2 * k) (long_words (table_at k)) t)) (add-one k)
           ∙ ap (λ (m : ℕ). put_parts (2 * k) (parts m k) t) (sym z)
           ∙ u.leads;
     }

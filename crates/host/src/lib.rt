@@ -1,4 +1,6 @@
 // The library that a panel links: each call takes and gives bytes, and include/strakobud.h says which.
+#![tactic(auto)]
+
 mod area_calls;
 mod axis_calls;
 mod check_calls;

@@ -4,7 +4,7 @@ use mathlib.Core.Bool.{Bool, true, false, cond}
 use mathlib.Core.List.{List, [], ◌∷◌, ◌++◌, append_assoc}
 use Prim.Native.Nat.{ℕ, zero, suc, ◌+◌, ◌<◌, ◌≤◌}
 use native.Mathlib.Nat.{add-zero, not-suc-le-zero, le_of_suc-le-suc}
-use native.Mathlib.Numerals.{add_one}
+use native.Mathlib.Numerals.{add-one}
 use native.Mathlib.Omega.{arith}
 use lib.Dec.{eqb}
 use lib.ListN.{length, take, drop, get_or, set, length-append, length-drop, drop_of_length-le, length-replicate, get_or-replicate}
@@ -42,7 +42,7 @@ turn l k absent w i m j v room below is =
     let ws = words_unless absent w i m in
     ap (λ (x : ℕ). set (paste l k ws j) (k + j) x) (is ∙ sym (unless_get absent w i m j below))
     ∙ paste-suc l k ws j 0 (omega (arith, room, below)) (omega (arith, below, unless_length absent w i m))
-    ∙ ap (paste l k ws) (sym (add_one j))
+    ∙ ap (paste l k ws) (sym (add-one j))
 
 -- ---- many parts
 -- Pastes at parts s t: the parts were copied over s from place at on, one call after another, which left t

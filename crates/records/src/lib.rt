@@ -1,4 +1,6 @@
 // A state's record, the one definition that the host library and the drawer use; and the words of what a frame puts out.
+#![tactic(auto)]
+
 mod read;
 mod tidying;
 mod write;

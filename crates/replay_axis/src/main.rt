@@ -3,6 +3,8 @@
 // rubber_band; then offset, delta of a drag; offset, velocity, dt, hold of a step; offset, velocity, delta,
 // source, can_chain_to_parent, dt, bounced of a wheel turn. What is printed is held to the oracle's answers,
 // which egui's own scroll_physics.rs gave alike.
+#![tactic(auto)]
+
 mod line;
 mod operands;
 

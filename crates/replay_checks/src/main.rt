@@ -2,6 +2,8 @@
 // 0. A record on standard input is a word, the frame's length; 424 bytes that begin with the frame; and the state, 39
 // words in the order of its fields, an f64 as low word and high word, an option as a flag and its words. What is
 // printed is held to the answers of an independent program (oracle/).
+#![tactic(auto)]
+
 mod stored_state;
 
 use libc::{STDIN_FILENO, STDOUT_FILENO};

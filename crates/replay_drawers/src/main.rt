@@ -3,6 +3,8 @@
 // given, 2 for four bytes that are put into it, 3 for a lay, 4 for a save, 5 for a load, 6 for a forget; the files given and
 // calls say what follows. Any other word, or a call cut short, ends the program. What is printed is held to the answers of an
 // independent program (oracle/).
+#![tactic(auto)]
+
 mod calls;
 mod given;
 mod input;

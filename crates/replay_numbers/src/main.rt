@@ -1,6 +1,8 @@
 // Runs stored calls of the numbers and prints each with its answer. A call on standard input is nine
 // words: its number, as in `name`, and eight operands; an f64 is two of them, the high one first.
 // What is printed is held to the answers of an independent program (oracle/).
+#![tactic(auto)]
+
 mod answer;
 mod line;
 

@@ -4,6 +4,8 @@
 // state's record that is kept, zeros at first, 4 for a fresh one, 5 for a frame, 6 for a reset, 7 for one that is given. The
 // files load, run and kept say what follows. Any other word, or a call cut short, ends the program. What is printed is held to
 // the answers of an independent program (oracle/).
+#![tactic(auto)]
+
 mod input;
 mod kept;
 mod line;

@@ -3,6 +3,8 @@
 // follows, and a reset stands beside the frame. A table that loads serves from then on, and T at first and after one that
 // is refused. Any other word, or a record cut short, ends the run. What is printed is held to the answers of an independent
 // program (oracle/).
+#![tactic(auto)]
+
 mod exp;
 mod frame;
 mod line;

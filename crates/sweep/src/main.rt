@@ -1,5 +1,7 @@
 // Which word made a frame bad: frames of 416 bytes from standard input, one after another, and a line each: the number that the walk of checks
 // 2 to 5 keeps after each word, one digit a word. A shorter last part is a frame refused with 1, and its line is 1.
+#![tactic(auto)]
+
 mod line;
 
 use libc::{STDIN_FILENO, STDOUT_FILENO};

@@ -1,5 +1,7 @@
 // The truth table of who takes a wheel turn. A row's conditions, and by what its turns are taken or not, are written down; whether they are
 // taken and what they leave is found by running axis::call::wheel on every turn of the grid that belongs to the row.
+#![tactic(auto)]
+
 mod cells;
 mod counts;
 mod grid;

@@ -1,5 +1,5 @@
 -- The invariant: the first k comparisons are made, and `before` is the last entry that was read.
-use Rattle.std.proofs.Common.{◌≡◌, ℕ, ◌+◌, ◌-◌, ◌^◌, ◌≤◌, Bool, not, ◌&&◌, eqb, ltb, List, sym, ap, ◌∙◌, add_one, arith, rules}
+use Rattle.std.proofs.Common.{◌≡◌, ℕ, ◌+◌, ◌-◌, ◌^◌, ◌≤◌, Bool, not, ◌&&◌, eqb, ltb, List, sym, ap, ◌∙◌, add-one, arith, rules}
 use Rattle.words.specs.Words.{long_at}
 use Rattle.numbers.specs.Table.{is_ordered}
 use Rattle.numbers.proofs.lent_table.is_ordered.Statement.{statement}
@@ -9,8 +9,8 @@ goes_on : (b : List ℕ) (k before next : ℕ) (ordered : Bool) → before ≡ l
     → (ordered && not (ltb before next)) ≡ is_ordered b (k + 1)
 unfolding is_ordered
 goes_on b k before next ordered p q r =
-    (λ i. q i && not (ltb (p i) (r i))) ∙ ap (λ (n : ℕ). is_ordered b k && not (ltb (long_at b k) (long_at b n))) (add_one k)
-    ∙ ap (is_ordered b) (sym (add_one k))
+    (λ i. q i && not (ltb (p i) (r i))) ∙ ap (λ (n : ℕ). is_ordered b k && not (ltb (long_at b k) (long_at b n))) (add-one k)
+    ∙ ap (is_ordered b) (sym (add-one k))
 
 abbrev invariant_loop : tie.invariant-loop
 invariant_loop bytes before₀ ordered₀ k₀ before ordered k = (k ≤ 1024) × (before ≡ long_at bytes k) × (ordered ≡ is_ordered bytes k)
