@@ -11,7 +11,7 @@ use numbers::{Align, Rangef, abs, clamp, lerp, min, remap, widen};
 
 // One axis of the visible window that a target is brought into: where the content starts, the clip's side, and the space
 // to leave around the target.
-#[derive(Drop)]
+#[derive(Clone, Copy)]
 pub struct AxisView {
     pub min: f32,
     pub clip_start: f32,
@@ -20,14 +20,14 @@ pub struct AxisView {
 }
 
 // How far the content asks to be scrolled, and how fast if that is animated.
-#[derive(Drop)]
+#[derive(Clone, Copy)]
 pub struct AskedDelta {
     pub delta: f32,
     pub animation: ScrollAnimation,
 }
 
 // The motion after a request, and whether there was one; if so, a repaint is wanted too.
-#[derive(Drop)]
+#[derive(Clone, Copy)]
 pub struct Adjusted {
     pub motion: AxisMotion,
     pub had_explicit_scroll_adjustment: bool,

@@ -12,13 +12,13 @@ use crate::press::press_axis;
 use crate::state::{MaybeRect, StartOffset, clamped};
 
 // An array holds structs, so the option stands in one.
-#[derive(Drop)]
+#[derive(Clone, Copy)]
 pub struct HandleRect {
     pub rect: MaybeRect,
 }
 
 // One axis after its bar.
-#[derive(Drop)]
+#[derive(Clone, Copy)]
 pub struct Barred {
     pub motion: AxisMotion,
     pub press: StartOffset,

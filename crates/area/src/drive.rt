@@ -13,7 +13,7 @@ use axis::AxisPhysics;
 use numbers::flag_as_number;
 
 // What the hand does on one axis. It drags, or has just let go, only where there is a response to a drag of the background.
-#[derive(Drop)]
+#[derive(Clone, Copy)]
 pub struct AxisInput {
     pub direction_enabled: bool,
     pub dragged: bool,

@@ -19,7 +19,7 @@ use crate::{host_words, settings_words};
 use numbers::{Pos2, Rangef, Rect};
 
 // One axis at the end of a frame.
-#[derive(Drop)]
+#[derive(Clone, Copy)]
 pub struct AxisEnded {
     pub offset: f32,
     pub vel: f32,
@@ -36,13 +36,13 @@ pub struct AxisEnded {
 }
 
 // The extent of an axis, and of the other one.
-#[derive(Drop)]
+#[derive(Clone, Copy)]
 pub struct Extents {
     pub this: AxisExtent,
     pub other: AxisExtent,
 }
 
-#[derive(Drop)]
+#[derive(Clone, Copy)]
 pub struct Ended {
     pub x_extent: AxisExtent,
     pub y_extent: AxisExtent,

@@ -10,7 +10,7 @@ use numbers::{ceil, max, min};
 
 // The inner rectangle's side as shrunk, with its size; where the outer one's ends; how far the offset may go, negative
 // where the content fits; and whether it does not.
-#[derive(Drop)]
+#[derive(Clone, Copy)]
 pub struct AxisExtent {
     pub content_size: f32,
     pub min: f32,

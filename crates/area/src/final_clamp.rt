@@ -6,7 +6,7 @@ use crate::geometry::{has_target, pick};
 use crate::prepared::AxisMotion;
 use crate::state::clamped;
 
-#[derive(Drop)]
+#[derive(Clone, Copy)]
 pub struct FinalClamp {
     pub offset: f32,
     pub scroll_stuck_to_end: bool,

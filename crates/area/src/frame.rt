@@ -4,7 +4,7 @@ use crate::state::MaybeRect;
 use axis::{KineticScrollStyle, WheelSource};
 use numbers::{Align, Pos2, Rangef, Rect};
 
-#[derive(Drop)]
+#[derive(Clone, Copy)]
 pub struct Frame {
     pub settings: Settings,
     pub style: Style,
@@ -13,7 +13,7 @@ pub struct Frame {
 }
 
 // How the scroll area was built.
-#[derive(Drop)]
+#[derive(Clone, Copy)]
 pub struct Settings {
     pub direction_enabled: [bool; 2],
     pub auto_shrink: [bool; 2],
@@ -31,33 +31,33 @@ pub struct Settings {
     pub animated: bool,
 }
 
-#[derive(Drop)]
+#[derive(Clone, Copy)]
 pub enum ScrollBarVisibility {
     AlwaysHidden,
     VisibleWhenNeeded,
     AlwaysVisible,
 }
 
-#[derive(Drop)]
+#[derive(Clone, Copy)]
 pub enum DragScroll {
     Never,
     OnTouch,
     Always,
 }
 
-#[derive(Drop)]
+#[derive(Clone, Copy)]
 pub enum MaybeNumber {
     Nothing,
     Some(f32),
 }
 
-#[derive(Drop)]
+#[derive(Clone, Copy)]
 pub struct GivenOffset {
     pub number: MaybeNumber,
 }
 
 // How bars and motion look.
-#[derive(Drop)]
+#[derive(Clone, Copy)]
 pub struct Style {
     pub floating: bool,
     pub allocated_width: f32,
@@ -72,7 +72,7 @@ pub struct Style {
 }
 
 // What the Rust reads from Ui, Context and Response.
-#[derive(Drop)]
+#[derive(Clone, Copy)]
 pub struct Host {
     pub available: Rect,
     pub clip: Rect,
@@ -95,14 +95,14 @@ pub struct Host {
     pub bars: [BarResponse; 2],
 }
 
-#[derive(Drop)]
+#[derive(Clone, Copy)]
 pub enum MaybePos2 {
     Nothing,
     Some(Pos2),
 }
 
 // What the pointer does on one axis's bar.
-#[derive(Drop)]
+#[derive(Clone, Copy)]
 pub struct BarResponse {
     pub hovered: bool,
     pub dragged: bool,
@@ -110,7 +110,7 @@ pub struct BarResponse {
 }
 
 // What was put into the area in this frame.
-#[derive(Drop)]
+#[derive(Clone, Copy)]
 pub struct Content {
     pub size: [f32; 2],
     pub min: [f32; 2],
@@ -119,32 +119,32 @@ pub struct Content {
     pub targets: [TargetRequest; 2],
 }
 
-#[derive(Drop)]
+#[derive(Clone, Copy)]
 pub struct ScrollAnimation {
     pub points_per_second: f32,
     pub duration: Rangef,
 }
 
-#[derive(Drop)]
+#[derive(Clone, Copy)]
 pub enum MaybeAlign {
     Nothing,
     Some(Align),
 }
 
-#[derive(Drop)]
+#[derive(Clone, Copy)]
 pub struct ScrollTarget {
     pub range: Rangef,
     pub align: MaybeAlign,
     pub animation: ScrollAnimation,
 }
 
-#[derive(Drop)]
+#[derive(Clone, Copy)]
 pub enum MaybeScrollTarget {
     Nothing,
     Some(ScrollTarget),
 }
 
-#[derive(Drop)]
+#[derive(Clone, Copy)]
 pub struct TargetRequest {
     pub target: MaybeScrollTarget,
 }

@@ -9,7 +9,7 @@ use crate::{host_words, settings_words, style_words};
 use numbers::{Pos2, Rangef, Rect, lerp, max, remap_clamp};
 
 // What a bar needs of the space of its axis, and of the other axis the ends of the inner and the outer rectangle.
-#[derive(Drop)]
+#[derive(Clone, Copy)]
 pub struct BarSpace {
     pub content_size: f32,
     pub inner: Rangef,
@@ -20,7 +20,7 @@ pub struct BarSpace {
 }
 
 // A bar: its side along the axis, its side across, and what the handle on it stands for.
-#[derive(Drop)]
+#[derive(Clone, Copy)]
 pub struct Track {
     pub bar: Rangef,
     pub cross: Rangef,

@@ -7,7 +7,7 @@ use crate::checks::{is_pair_finite, is_rect_finite, is_state_finite};
 use crate::state::{MaybeRect, State};
 use numbers::{Pos2, Rect};
 
-#[derive(Drop)]
+#[derive(Clone, Copy)]
 pub struct Outcome {
     // 0 if the frame was accepted.
     pub refusal: u32,
@@ -21,7 +21,7 @@ pub struct Outcome {
     pub repaint: bool,
 }
 
-#[derive(Drop)]
+#[derive(Clone, Copy)]
 pub struct Answer {
     pub state: State,
     pub outcome: Outcome,

@@ -2,7 +2,7 @@
 use crate::state::{OffsetTarget, StartOffset};
 
 // What of the state moves on one axis.
-#[derive(Drop)]
+#[derive(Clone, Copy)]
 pub struct AxisMotion {
     pub offset: f32,
     pub vel: f32,
@@ -11,7 +11,7 @@ pub struct AxisMotion {
 }
 
 // What else the last frame left on one axis: the bounds, and what the wheel and the bar go on from.
-#[derive(Drop)]
+#[derive(Clone, Copy)]
 pub struct AxisBefore {
     pub max_offset: f32,
     pub content_is_too_large: bool,
@@ -21,7 +21,7 @@ pub struct AxisBefore {
 
 // The space of one axis: what the other axis's bar takes of it, the inner size, the inner rectangle's side, and the side
 // of the rectangle that the content is clipped to.
-#[derive(Drop)]
+#[derive(Clone, Copy)]
 pub struct AxisSpace {
     pub bar_use: f32,
     pub inner_size: f32,
@@ -32,14 +32,14 @@ pub struct AxisSpace {
 }
 
 // One axis after drag or step and the target under way.
-#[derive(Drop)]
+#[derive(Clone, Copy)]
 pub struct AxisBegun {
     pub motion: AxisMotion,
     pub rubber_banding: bool,
     pub repaint: bool,
 }
 
-#[derive(Drop)]
+#[derive(Clone, Copy)]
 pub struct Prepared {
     pub x_space: AxisSpace,
     pub y_space: AxisSpace,

@@ -10,7 +10,7 @@ use crate::state::{MaybePress, MaybeTarget, OffsetTarget, StartOffset};
 use numbers::{Pos2, Rangef, clamp, remap};
 
 // One axis after the press on its bar, or after none.
-#[derive(Drop)]
+#[derive(Clone, Copy)]
 pub struct Pressed {
     pub motion: AxisMotion,
     pub press: StartOffset,

@@ -13,7 +13,7 @@ use crate::moved::is_moved_by_words;
 use crate::state::State;
 
 // The refusal or 0, the frames used, and the state after them.
-#[derive(Drop)]
+#[derive(Clone, Copy)]
 pub struct Settled {
     pub refusal: u32,
     pub used: u32,

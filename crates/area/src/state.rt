@@ -7,45 +7,45 @@ use axis::scroll_bounds;
 use numbers::{Rect, Vec2};
 
 // A scroll target: the time at which the motion starts and ends, and the offset to reach.
-#[derive(Drop)]
+#[derive(Clone, Copy)]
 pub struct ScrollingToTarget {
     pub start: f64,
     pub end: f64,
     pub target_offset: f32,
 }
 
-#[derive(Drop)]
+#[derive(Clone, Copy)]
 pub enum MaybeTarget {
     Nothing,
     Toward(ScrollingToTarget),
 }
 
 // An array holds structs, so the enum of each axis stands in one.
-#[derive(Drop)]
+#[derive(Clone, Copy)]
 pub struct OffsetTarget {
     pub target: MaybeTarget,
 }
 
 // Where on a bar's handle the press began, measured from the handle's start.
-#[derive(Drop)]
+#[derive(Clone, Copy)]
 pub enum MaybePress {
     Nothing,
     At(f32),
 }
 
-#[derive(Drop)]
+#[derive(Clone, Copy)]
 pub struct StartOffset {
     pub press: MaybePress,
 }
 
-#[derive(Drop)]
+#[derive(Clone, Copy)]
 pub enum MaybeRect {
     Nothing,
     Some(Rect),
 }
 
 // Pairs are x, then y.
-#[derive(Drop)]
+#[derive(Clone, Copy)]
 pub struct State {
     // Positive means scrolled down or right; outside the valid range while rubber-banding.
     pub offset: [f32; 2],

@@ -14,14 +14,14 @@ use crate::marks::{
 };
 
 // The walk after some words: how many they are, and the number kept.
-#[derive(Drop)]
+#[derive(Clone, Copy)]
 pub struct Swept {
     pub count: u32,
     pub kept: u32,
 }
 
 // The same on the way, with the word that showed the number (see marks.rt).
-#[derive(Drop)]
+#[derive(Clone, Copy)]
 pub struct Walk {
     pub count: u32,
     pub mark: u32,

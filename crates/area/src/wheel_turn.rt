@@ -14,14 +14,14 @@ use axis::{AxisPhysics, WheelScroll};
 use numbers::Rect;
 
 // Whether the area hears the wheel, and whether both of its deltas move the only direction that is enabled.
-#[derive(Drop)]
+#[derive(Clone, Copy)]
 pub struct WheelHeard {
     pub heard: bool,
     pub always_scroll_enabled_direction: bool,
 }
 
 // One axis after the wheel. A consumed delta is not left to an enclosing area.
-#[derive(Drop)]
+#[derive(Clone, Copy)]
 pub struct Turned {
     pub motion: AxisMotion,
     pub rubber_banding: bool,

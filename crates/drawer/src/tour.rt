@@ -9,7 +9,7 @@ use records::is_damaged;
 use words::{word, word_in};
 
 // ok: the chain ends, and each of its records may stand there. up: its ids ascend.
-#[derive(Drop)]
+#[derive(Clone, Copy)]
 pub struct Tour {
     pub ok: bool,
     pub count: u32,

@@ -3,7 +3,7 @@ ghost use Rattle.std.specs.Prelude.{◌≡◌, ◌≤◌, length, drop};
 ghost use Rattle.frames.specs.Line as Spec;
 
 // The line stands from `start` on: behind the first digit where the refusal has one alone.
-#[derive(Drop)]
+#[derive(Clone, Copy)]
 pub struct Line {
     pub start: usize,
     pub bytes: [u8; 42],

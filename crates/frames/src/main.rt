@@ -13,7 +13,7 @@ use line::line_of;
 use table_file::read_table;
 
 // The state after a frame, the form of the next call, and whether another may follow.
-#[derive(Drop)]
+#[derive(Clone, Copy)]
 pub struct Turn {
     pub state: State,
     // 0 by value, 1 lent.

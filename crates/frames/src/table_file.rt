@@ -2,7 +2,7 @@
 ghost use Rattle.io.specs.Counts.{IsPrefixLen};
 
 // How many bytes were read, and whether they are the file's.
-#[derive(Drop)]
+#[derive(Clone, Copy)]
 pub struct Contents {
     pub readable: bool,
     pub count: usize,

@@ -14,7 +14,7 @@ use print_outcome::print_outcome_words;
 use print_state::print_state_words;
 
 // The state after a frame, the form of the next call, and whether another may follow.
-#[derive(Drop)]
+#[derive(Clone, Copy)]
 pub struct Turn {
     pub state: State,
     // 0 by value, 1 lent.

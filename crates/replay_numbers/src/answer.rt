@@ -2,7 +2,7 @@
 use numbers::{Align, Pos2, Rangef, Rect};
 
 // How many operands the call takes, how many words it answers, and these.
-#[derive(Drop)]
+#[derive(Clone, Copy)]
 pub struct Answer {
     pub operands: usize,
     pub count: usize,

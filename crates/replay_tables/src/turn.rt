@@ -1,7 +1,7 @@
 // What a record finds from those before it.
 use area::State;
 
-#[derive(Drop)]
+#[derive(Clone, Copy)]
 pub struct Turn {
     pub state: State,
     // 0 by value, 1 lent.

@@ -5,7 +5,7 @@ use crate::ran::run;
 use crate::rows::{is_momentum, rows_of};
 use libc::STDOUT_FILENO;
 
-#[derive(Drop)]
+#[derive(Clone, Copy)]
 enum Counted {
     Run,
     Refused,

@@ -5,7 +5,7 @@ use axis::WheelSource;
 // Five sources and five things that are one of two: 160 turns for each place.
 pub const TURNS: usize = PLACES * 160;
 
-#[derive(Drop)]
+#[derive(Clone, Copy)]
 pub struct Turn {
     pub place: Place,
     pub source: WheelSource,

@@ -7,7 +7,7 @@ pub const PLACES: usize = 60;
 const DELTAS: usize = 6;
 
 // Of an offset: before the start, on it, between start and end, on the end, after it.
-#[derive(Drop)]
+#[derive(Clone, Copy)]
 enum Side {
     Before,
     Start,
@@ -17,7 +17,7 @@ enum Side {
 }
 
 // Of a delta: towards the start, nowhere, towards the end.
-#[derive(Drop)]
+#[derive(Clone, Copy)]
 enum Way {
     Back,
     Nowhere,
@@ -25,14 +25,14 @@ enum Way {
 }
 
 // Whether there is room inside the bounds on the side that the delta points to.
-#[derive(Drop)]
+#[derive(Clone, Copy)]
 pub enum CanMove {
     DeltaZero,
     Yes,
     No,
 }
 
-#[derive(Drop)]
+#[derive(Clone, Copy)]
 pub struct Place {
     pub offset: f32,
     pub delta: f32,
@@ -40,10 +40,10 @@ pub struct Place {
     pub outside: bool,
 }
 
-#[derive(Drop)]
+#[derive(Clone, Copy)]
 struct Offset(f32, Side);
 
-#[derive(Drop)]
+#[derive(Clone, Copy)]
 struct Delta(f32, Way);
 
 pub fn place_at(number: usize) -> Place {

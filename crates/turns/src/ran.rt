@@ -4,7 +4,7 @@ use crate::rows::Row;
 use axis::{AxisPhysics, KineticScrollStyle, WheelScroll};
 use numbers::Rangef;
 
-#[derive(Drop)]
+#[derive(Clone, Copy)]
 pub struct Ran {
     pub refused: bool,
     pub taken: bool,
@@ -57,7 +57,7 @@ fn is_same(x: f32, y: f32) -> bool {
     numbers::bits_of_f32(x) == numbers::bits_of_f32(y)
 }
 
-#[derive(Drop)]
+#[derive(Clone, Copy)]
 pub struct Kept {
     pub unrun: bool,
     pub all_taken: bool,

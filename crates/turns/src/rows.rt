@@ -7,7 +7,7 @@ use axis::WheelSource;
 
 pub const ROWS: usize = 11;
 
-#[derive(Drop)]
+#[derive(Clone, Copy)]
 pub enum Sources {
     All,
     // None, Unknown and Wheel.
@@ -19,7 +19,7 @@ pub enum Sources {
 }
 
 // What a row asks of a flag.
-#[derive(Drop)]
+#[derive(Clone, Copy)]
 pub enum Wanted {
     Any,
     Yes,
@@ -27,7 +27,7 @@ pub enum Wanted {
 }
 
 // Why a turn is taken, or that nobody takes it.
-#[derive(Drop)]
+#[derive(Clone, Copy)]
 pub enum By {
     DeltaZero,
     Can,
@@ -38,7 +38,7 @@ pub enum By {
 }
 
 // In the order of the columns: source, rubber band, can move, outside, parent, bounced, by.
-#[derive(Drop)]
+#[derive(Clone, Copy)]
 pub struct Row(
     pub Sources,
     pub Wanted,
