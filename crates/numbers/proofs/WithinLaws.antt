@@ -1,6 +1,6 @@
 -- Numbers between two: what a product, a quotient by a number above 0 and a difference make of them. Assumes nothing.
-use Rattle.std.proofs.Common.{◌≡◌, ℕ, suc, ◌+◌, ◌-◌, ◌*◌, ◌<◌, ◌≤◌, Bool, true, false, cond, not, T, ltb, ℤ, sym, refl, ap, ◌∙◌, true≢false, zero-le, mul-le-mul_right, zero-lt-suc, mul_assoc, mul_comm, add-mul, mul-le-mul, add_comm, mul-pos, mul_zero, zero-mul, mul_right_comm, le_of_mul-le-mul_right, mul_left_comm, arith, ltb-false, ltb-true, le-ltb}
-use mathlib.Core.Bool.{not_not, or-true, false≢true}
+use Rattle.std.proofs.Common.{◌≡◌, ℕ, suc, ◌+◌, ◌-◌, ◌*◌, ◌<◌, ◌≤◌, Bool, true, false, cond, not, T, ltb, ℤ, sym, refl, ap, ◌∙◌, true≢false, zero-le, mul-le-mul_right, zero-lt-suc, mul_assoc, mul_comm, add-mul, mul-le-mul, add_comm, mul-pos, mul-zero, zero-mul, mul_right_comm, le_of_mul-le-mul_right, mul_left_comm, arith, ltb-false, ltb-true, le-ltb}
+use mathlib.Core.Bool.{not-not, or-true, false≢true}
 use native.Mathlib.Nat.{mul-mul-mul_comm}
 use lib.Dec.{eqb-suc-zero}
 use lib.Ieee.{Float, Format, nan, inf, fin, binary32, up, down, round, sum, add, sub, neg, mul, div, below, lt, le, eq, of_bits, of_int, unlike}
@@ -146,7 +146,7 @@ is_up false a d h p = absurd (false≢true p)
 unlike_up : (s t : Bool) (a b : ℕ) → IsUp s a → IsUp t b → IsUp (unlike s t) (a * b)
 unlike_up true true a b p q h = absurd (false≢true h)
 unlike_up true false a b p q h = ap (λ (n : ℕ). n * b) (p refl) ∙ zero-mul b
-unlike_up false true a b p q h = ap (λ (n : ℕ). a * n) (q refl) ∙ mul_zero a
+unlike_up false true a b p q h = ap (λ (n : ℕ). a * n) (q refl) ∙ mul-zero a
 unlike_up false false a b p q h = absurd (false≢true h)
 
 times_up : (s : Bool) (a b : ℕ) → IsUp s a → IsUp s (a * b)
@@ -262,7 +262,7 @@ sub_turned f (fin w k g) nan p q = absurd (false≢true q)
 sub_turned f (fin w k g) (inf s) p q = absurd (false≢true q)
 sub_turned f (fin w k g) (fin s m e) p q =
     sum_turned f w (k * up g * down e) (not s) (m * up e * down g) (down g * down e)
-    ∙ ap (λ (t : Bool). sum f (not s) (m * up e * down g) t (k * up g * down e) (down g * down e)) (sym (not_not w))
+    ∙ ap (λ (t : Bool). sum f (not s) (m * up e * down g) t (k * up g * down e) (down g * down e)) (sym (not-not w))
     ∙ ap (sum f (not s) (m * up e * down g) (not (not w)) (k * up g * down e)) (mul_comm (down g) (down e))
 
 sub_anti : (f : Format) (z x y : Float) → is_finite z ≡ true → is_finite x ≡ true → is_finite y ≡ true → T (le x y) → T (le (sub f z y) (sub f z x))

@@ -1,0 +1,9 @@
+use Rattle.std.proofs.Common.{◌∙◌}
+use Rattle.numbers.proofs.HalvedLaws.{halves, rests}
+use Rattle.numbers.proofs.exponential.+halved.Goals as goal
+
+pub returns-then-left-x : goal.returns-then-left-x
+returns-then-left-x t c = halves _ _ _ _ c.if-left-x.true c.halved-e.ensures
+
+pub returns : goal.returns
+returns t c = c.by_table.ensures ∙ rests _ _ _ c.if-left-x.false
