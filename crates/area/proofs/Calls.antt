@@ -1,7 +1,7 @@
 -- The premises of `Run`'s constructors are the contracts of the four frame calls, of the two runs and of the two resets, as `rattle check` makes
 -- them from the source: a contract that says anything else is refused here, and so is one that asks anything of its caller.
 -- Assumes nothing.
-use Rattle.core.specs.Prelude.{◌≡◌}
+use Rattle.std.specs.Prelude.{◌≡◌}
 use mathlib.Core.Path.{refl}
 use seplogic.Ra.Ura.{Ura}
 use base.Logic.{SProp, sep, emp}

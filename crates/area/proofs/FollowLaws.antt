@@ -1,5 +1,5 @@
 -- A scroll target under way moves the offset, and leaves the rubber band's flag and the stuck flag. Assumes nothing.
-use Rattle.core.specs.Prelude.{◌≡◌}
+use Rattle.std.specs.Prelude.{◌≡◌}
 use mathlib.Core.Path.{refl}
 use lib.Ieee.{Float, lt}
 use Rattle.numbers.specs.F32.{one}

@@ -1,7 +1,7 @@
 -- The frame call on a frame inside a settling run: it names no move, is refused with 3 where its time is late, with 12 where the clock has run
 -- back, which it has not after the first one, and otherwise with 8 alone.
 -- Assumes nothing.
-use Rattle.core.specs.Prelude.{◌≡◌, ℕ, Bool, true, false, cond, not, ◌&&◌, ◌||◌, eqb, List, length}
+use Rattle.std.specs.Prelude.{◌≡◌, ℕ, Bool, true, false, cond, not, ◌&&◌, ◌||◌, eqb, List, length}
 use mathlib.Core.Path.{refl, sym, ap, ◌∙◌}
 use native.Mathlib.Omega.{arith}
 use borrow.Author.Tests.{eqb-true}

@@ -1,5 +1,5 @@
 -- What a word's bits tell at once of the numbers that it shows. Assumes nothing.
-use Rattle.core.specs.Prelude.{◌≡◌, ℕ, ◌%◌, ◌^◌, ◌<◌, Bool, true, false, not, ◌&&◌, eqb, leb}
+use Rattle.std.specs.Prelude.{◌≡◌, ℕ, ◌%◌, ◌^◌, ◌<◌, Bool, true, false, not, ◌&&◌, eqb, leb}
 use mathlib.Core.Path.{refl, sym, ap, ◌∙◌}
 use native.Mathlib.Omega.{arith}
 use lib.Ieee.{binary32, of_bits, to_bits, lt, le, ne, eq, div}

@@ -1,6 +1,6 @@
 -- An axis that no word of an accepted frame moves is not moved by the steps: so the reading by words follows from the narrowest.
 -- Assumes nothing.
-use Rattle.core.specs.Prelude.{◌≡◌, ℕ, ◌+◌, Bool, true, false, not, ◌&&◌, ◌||◌, List, get_or}
+use Rattle.std.specs.Prelude.{◌≡◌, ℕ, ◌+◌, Bool, true, false, not, ◌&&◌, ◌||◌, List, get_or}
 use mathlib.Core.Path.{refl}
 use mathlib.Core.Bool.{true≢false}
 use lib.Ieee.{Float, binary32, eq, ne}

@@ -1,5 +1,5 @@
 -- The order of finite numbers, the clamp to the range of offsets, and the list's end. Assumes nothing.
-use Rattle.core.specs.Prelude.{◌≡◌, Bool, true, false, cond, ◌||◌}
+use Rattle.std.specs.Prelude.{◌≡◌, Bool, true, false, cond, ◌||◌}
 use mathlib.Core.Path.{refl, sym, ap, ◌∙◌}
 use mathlib.Core.Bool.{true≢false}
 use lib.Ieee.{Float, of_bits, lt, le, eq}

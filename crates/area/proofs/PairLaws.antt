@@ -1,5 +1,5 @@
 -- What a frame holds of axis d, read from its own words.
-use Rattle.core.specs.Prelude.{◌≡◌, ℕ, zero, suc, ◌+◌, ◌*◌, ◌<◌, List, get_or}
+use Rattle.std.specs.Prelude.{◌≡◌, ℕ, zero, suc, ◌+◌, ◌*◌, ◌<◌, List, get_or}
 use mathlib.Core.Path.{refl, ap}
 use native.Mathlib.Omega.{arith}
 use Rattle.area.specs.Frame.{pair_no, number_no, flags_no, flag_no, pos2_no, rect_no, given_offset_no, bar_response_no, target_request_no, settings_of, host_of, content_of, frame_of}

@@ -1,5 +1,5 @@
 -- "with rubber band off the stored offset lies in the range": no stage sets the flag, so the final clamp applies. Assumes nothing.
-use Rattle.core.specs.Prelude.{◌≡◌, ℕ, Bool, true, false, ◌&&◌, eqb, List}
+use Rattle.std.specs.Prelude.{◌≡◌, ℕ, Bool, true, false, ◌&&◌, eqb, List}
 use mathlib.Core.Path.{refl, sym, ap, subst, ◌∙◌}
 use mathlib.Core.Bool.{true≢false}
 use lib.Ieee.{Float}

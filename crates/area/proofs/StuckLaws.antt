@@ -1,5 +1,5 @@
 -- An axis that is not dragged stays stuck through `begin`, and through targets, deltas and a wheel that is not taken. Assumes nothing.
-use Rattle.core.specs.Prelude.{◌≡◌, ℕ, Bool, true, false, not, ◌&&◌}
+use Rattle.std.specs.Prelude.{◌≡◌, ℕ, Bool, true, false, not, ◌&&◌}
 use mathlib.Core.Path.{sym, ap, ◌∙◌}
 use mathlib.Core.Bool.{true≢false}
 use lib.Ieee.{Float, ne}

@@ -1,5 +1,5 @@
 -- The corners of a target under way. Assumes nothing.
-use Rattle.core.specs.Prelude.{◌≡◌}
+use Rattle.std.specs.Prelude.{◌≡◌}
 use mathlib.Core.Path.{refl}
 use lib.Ieee.{lt, of_bits}
 use Rattle.numbers.proofs.FactorLaws.{zero_length_gives_1, before_start_gives_0}

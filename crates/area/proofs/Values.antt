@@ -2,7 +2,7 @@
 -- those of its two fields go together. The values are shut, so that no step of a walk spells their fields out.
 -- What is of typing and of memory assumes `Logic`; all else assumes nothing.
 use mathlib.Core.Path.{refl, subst}
-use Rattle.core.specs.Prelude.{ℕ, T, List, [], ◌∷◌}
+use Rattle.std.specs.Prelude.{ℕ, T, List, [], ◌∷◌}
 use seplogic.Ra.Ura.{Ura}
 use mir.Syntax.{Tys, tcons, tnil, Opd as Operand, aggregate}
 use mir.Val.{Val, Vals, vcons, vnil, WT, has_ty}

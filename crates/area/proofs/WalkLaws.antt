@@ -1,6 +1,6 @@
 -- The walk over the first n words keeps the lowest number that they show, with the word at which it was kept first; over all of them it tells
 -- what checks 2 to 5 tell. Assumes nothing.
-use Rattle.core.specs.Prelude.{◌≡◌, ℕ, zero, suc, ◌+◌, ◌-◌, ◌*◌, ◌/◌, ◌%◌, ◌<◌, ◌≤◌, Bool, true, false, cond, not, ◌||◌, eqb, ltb, leb, List, length}
+use Rattle.std.specs.Prelude.{◌≡◌, ℕ, zero, suc, ◌+◌, ◌-◌, ◌*◌, ◌/◌, ◌%◌, ◌<◌, ◌≤◌, Bool, true, false, cond, not, ◌||◌, eqb, ltb, leb, List, length}
 use mathlib.Core.Path.{refl, sym, ap, ◌∙◌, subst}
 use native.Mathlib.Nat.{add-zero, zero-add, add-suc, suc-add, add_assoc, sub-zero}
 use native.Mathlib.Omega.{arith}

@@ -1,5 +1,5 @@
 -- Every turn of the wheel in a frame that passes checks 1 to 5 is one that the law of the wheel covers. Assumes nothing.
-use Rattle.core.specs.Prelude.{◌≡◌, ℕ, zero, suc, ◌<◌, Bool, true, false, ◌&&◌, List}
+use Rattle.std.specs.Prelude.{◌≡◌, ℕ, zero, suc, ◌<◌, Bool, true, false, ◌&&◌, List}
 use mathlib.Core.Path.{subst}
 use native.Mathlib.Omega.{arith}
 use lib.Ieee.{Float, binary32, neg, le}

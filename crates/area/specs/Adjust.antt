@@ -1,5 +1,5 @@
 -- Prepared::end, "targets and deltas", on one axis: the delta that the content asks for, and what it does to the motion.
-use Rattle.core.specs.Prelude.{ℕ, Bool, true, false, cond, not, ◌&&◌, List, slice_index_or}
+use Rattle.std.specs.Prelude.{ℕ, Bool, true, false, cond, not, ◌&&◌, List, slice_index_or}
 use Rattle.std.specs.Prelude.{Float}
 use Rattle.std.specs.Float.{binary64}
 use Rattle.std.specs.Float.Ieee.{add, lt, ne, neg}

@@ -1,5 +1,5 @@
 -- axis_physics: "Per axis. Bounds are from last frame", or, for the wheel, "We know this frame's bounds now".
-use Rattle.core.specs.Prelude.{Bool, ◌&&◌}
+use Rattle.std.specs.Prelude.{Bool, ◌&&◌}
 use Rattle.std.specs.Prelude.{Float}
 use Rattle.axis.specs.Physics.{scroll_bounds_of}
 use Rattle.axis.specs.declared.physics.AxisPhysics.{AxisPhysics}

@@ -1,5 +1,5 @@
 -- One turn of the bar loop, after the sticking.
-use Rattle.core.specs.Prelude.{ℕ, Bool, false, cond, ◌||◌, slice_index_or}
+use Rattle.std.specs.Prelude.{ℕ, Bool, false, cond, ◌||◌, slice_index_or}
 use Rattle.std.specs.Prelude.{Float}
 use Rattle.std.specs.Float.Ieee.{eq, ne}
 use Rattle.numbers.specs.F32.{zero}

@@ -1,5 +1,5 @@
 -- ScrollArea::begin, as far as document 01 keeps it, under the table that its steps use.
-use Rattle.core.specs.Prelude.{◌≡◌, ℕ, Bool, true, false, ◌&&◌, ◌||◌, [], ◌∷◌}
+use Rattle.std.specs.Prelude.{◌≡◌, ℕ, Bool, true, false, ◌&&◌, ◌||◌, [], ◌∷◌}
 use Rattle.std.specs.Prelude.{refl, Float}
 use Rattle.std.specs.Float.{binary32}
 use Rattle.std.specs.Float.Ieee.{of_bits, round}

@@ -1,5 +1,5 @@
 -- "The frame call": the checks but 8 in order, 12 among them, 7 on the bar and handle that `begin` and `end` reach; then 8 on what they put out.
-use Rattle.core.specs.Prelude.{ℕ, cond, List, ◌==◌}
+use Rattle.std.specs.Prelude.{ℕ, cond, List, ◌==◌}
 use Rattle.numbers.specs.Table.{Table}
 use Rattle.area.specs.Frame.{frame_of}
 use Rattle.area.specs.Checks.{refusal_before7}

@@ -1,5 +1,5 @@
 -- "Turned back, in checking order", 1 to 6, and document 02's 12. "For a frame, checks 1 to 5 read the frame alone, never the state."
-use Rattle.core.specs.Prelude.{ℕ, zero, suc, ◌-◌, Bool, true, false, cond, not, ◌&&◌, ◌||◌, List, length, ◌==◌, from_bits, nat_lt, slice_index_or}
+use Rattle.std.specs.Prelude.{ℕ, zero, suc, ◌-◌, Bool, true, false, cond, not, ◌&&◌, ◌||◌, List, length, ◌==◌, from_bits, nat_lt, slice_index_or}
 use Rattle.std.specs.Prelude.{Float}
 use Rattle.std.specs.Float.{binary64}
 use Rattle.std.specs.Float.Ieee.{lt, le, ne}

@@ -1,5 +1,5 @@
 -- Document 02, K5: "The clock may not run backwards." What the state remembers of it stands in State, and where a frame sets it in PutOut.
-use Rattle.core.specs.Prelude.{ℕ, Bool, cond, List}
+use Rattle.std.specs.Prelude.{ℕ, Bool, cond, List}
 use Rattle.std.specs.Float.Ieee.{lt}
 use Rattle.area.specs.State.{no_time}
 use Rattle.area.specs.Layout as At

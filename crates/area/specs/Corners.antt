@@ -1,5 +1,5 @@
 -- Document 01, "Beginning a frame": the corners of a target under way, for every axis and every number, a not-a-number included.
-use Rattle.core.specs.Prelude.{◌≡◌, ℕ, true, false, T, List}
+use Rattle.std.specs.Prelude.{◌≡◌, ℕ, true, false, T, List}
 use Rattle.std.specs.Prelude.{Float}
 use Rattle.std.specs.Float.{binary32, binary64}
 use Rattle.std.specs.Float.Ieee.{lt, le, eq, fits}

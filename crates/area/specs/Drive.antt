@@ -1,5 +1,5 @@
 -- The explicit offset, then the hand's drag or the axis's own step under a table, on one axis.
-use Rattle.core.specs.Prelude.{ℕ, false, cond, slice_index_or}
+use Rattle.std.specs.Prelude.{ℕ, false, cond, slice_index_or}
 use Rattle.std.specs.Prelude.{Float}
 use Rattle.std.specs.Float.Ieee.{neg}
 use Rattle.numbers.specs.Table.{Table}

@@ -1,5 +1,5 @@
 -- Prepared::end: "targets and deltas, inner size by direction and shrink, too-large flags, wheel, bars, final clamp, stuck flags".
-use Rattle.core.specs.Prelude.{ℕ, Bool, ◌&&◌, ◌||◌}
+use Rattle.std.specs.Prelude.{ℕ, Bool, ◌&&◌, ◌||◌}
 use Rattle.numbers.specs.declared.shape.Rect.{Rect}
 use Rattle.area.specs.Pair.{flag}
 use Rattle.area.specs.Geometry.{shows_bar}

@@ -1,5 +1,5 @@
 -- Prepared::end, "inner size by direction and shrink, too-large flags", on one axis, and max_offset.
-use Rattle.core.specs.Prelude.{ℕ, Bool, cond, ◌&&◌}
+use Rattle.std.specs.Prelude.{ℕ, Bool, cond, ◌&&◌}
 use Rattle.std.specs.Prelude.{Float}
 use Rattle.std.specs.Float.Ieee.{lt}
 use Rattle.numbers.specs.F32.{plus, minus}

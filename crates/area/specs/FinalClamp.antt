@@ -1,5 +1,5 @@
 -- After the bar loop: "final clamp, stuck flags". available_offset is content_size - inner_rect.size(), as max_offset is.
-use Rattle.core.specs.Prelude.{Bool, not, ◌&&◌, ◌||◌}
+use Rattle.std.specs.Prelude.{Bool, not, ◌&&◌, ◌||◌}
 use Rattle.std.specs.Prelude.{Float}
 use Rattle.std.specs.Float.Ieee.{lt, eq}
 use Rattle.numbers.specs.F32.{zero}

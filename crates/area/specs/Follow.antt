@@ -1,5 +1,5 @@
 -- "A scroll target under way .. moves after drag or step and zeroes the velocity."
-use Rattle.core.specs.Prelude.{Bool, true, cond}
+use Rattle.std.specs.Prelude.{Bool, true, cond}
 use Rattle.std.specs.Prelude.{Float}
 use Rattle.std.specs.Float.Ieee.{lt}
 use Rattle.numbers.specs.F32.{minus, zero, one}

@@ -1,6 +1,6 @@
 -- The frame that the words stand for. "pairs and points in order x, y; rectangles as min, max. An option is a flag, then its words,
 -- ignored if the flag is 0."
-use Rattle.core.specs.Prelude.{◌≡◌, ℕ, ◌+◌, ◌-◌, ◌*◌, ◌<◌, ◌≤◌, Bool, cond, List, [], ◌∷◌, length, ◌==◌, from_bits, to_bits}
+use Rattle.std.specs.Prelude.{◌≡◌, ℕ, ◌+◌, ◌-◌, ◌*◌, ◌<◌, ◌≤◌, Bool, cond, List, [], ◌∷◌, length, ◌==◌, from_bits, to_bits}
 use Rattle.std.specs.Prelude.{Float}
 use Rattle.std.specs.Float.{binary32, binary64}
 use Rattle.words.specs.Words.{word_at, long_words}

@@ -1,5 +1,5 @@
 -- What both halves of a frame ask of points, rectangles and options.
-use Rattle.core.specs.Prelude.{ℕ, Bool, true, false, cond, ◌==◌}
+use Rattle.std.specs.Prelude.{ℕ, Bool, true, false, cond, ◌==◌}
 use Rattle.std.specs.Prelude.{Float}
 use Rattle.numbers.specs.Shape.{intersect_of, rect_contains_of}
 use Rattle.numbers.specs.declared.shape.Pos2.{Pos2}

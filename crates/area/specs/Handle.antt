@@ -1,5 +1,5 @@
 -- The bar loop from show_factor to calculate_handle_rect: where one axis's bar stands and where its handle is on it.
-use Rattle.core.specs.Prelude.{ℕ, Bool, cond, ◌&&◌, ◌==◌}
+use Rattle.std.specs.Prelude.{ℕ, Bool, cond, ◌&&◌, ◌==◌}
 use Rattle.std.specs.Prelude.{Float}
 use Rattle.std.specs.Float.Ieee.{lt, le}
 use Rattle.numbers.specs.F32.{plus, minus, times, zero}

@@ -1,6 +1,6 @@
 -- "The frame in bytes": 104 words, numbered from 1, and what the checks ask of each. The decoder names a field by its first word,
 -- and the checks walk the rows.
-use Rattle.core.specs.Prelude.{◌≡◌, ℕ, ◌+◌, ◌-◌, Bool, true, ◌&&◌, List, [], ◌∷◌, ◌++◌, length, ◌==◌, slice_index_or}
+use Rattle.std.specs.Prelude.{◌≡◌, ℕ, ◌+◌, ◌-◌, Bool, true, ◌&&◌, List, [], ◌∷◌, ◌++◌, length, ◌==◌, slice_index_or}
 use Rattle.std.specs.Prelude.{refl}
 
 -- ---- a row: how a word is read; the most that a flag or kind may be; the flag word of the option that the word lies in and the word that

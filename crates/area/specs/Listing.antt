@@ -1,5 +1,5 @@
 -- Document 01's listing: a frame in bytes, and what it prints, run from a fresh state: "0 00000000 43960000 00000000 00000000 11".
-use Rattle.core.specs.Prelude.{◌≡◌, ℕ, ◌+◌, true, false, List, [], ◌∷◌, ◌++◌, replicate}
+use Rattle.std.specs.Prelude.{◌≡◌, ℕ, ◌+◌, true, false, List, [], ◌∷◌, ◌++◌, replicate}
 use Rattle.std.specs.Prelude.{refl}
 use Rattle.std.specs.Float.{inf, binary32}
 use Rattle.std.specs.Float.Ieee.{of_bits, of_int}

@@ -1,6 +1,6 @@
 -- Demand 3: "one claim about the whole list, not one for each call", in which each call has the table that it uses, and settling runs and
 -- resets stand among the frames.
-use Rattle.core.specs.Prelude.{◌≡◌, ℕ, ◌+◌, Bool, true, false, cond, List, [], ◌∷◌, ◌++◌, ◌==◌}
+use Rattle.std.specs.Prelude.{◌≡◌, ℕ, ◌+◌, Bool, true, false, cond, List, [], ◌∷◌, ◌++◌, ◌==◌}
 use Rattle.std.specs.Prelude.{Float}
 use Rattle.std.specs.Float.Ieee.{lt, le, eq}
 use Rattle.numbers.specs.Table.{Table}

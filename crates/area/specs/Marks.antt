@@ -1,7 +1,7 @@
 -- What the functions of the walk do, word by word and field by field: for the proof of src/marks.rt and src/sweep.rt, and for `on_the_way`
 -- in Sweep.antt.
 -- A mark is the number that a word shows times 128, plus the word's own number; 0 is none.
-use Rattle.core.specs.Prelude.{◌≡◌, ℕ, zero, suc, ◌+◌, ◌-◌, ◌*◌, ◌<◌, ◌≤◌, cond, not, ◌&&◌, List, [], ◌∷◌, length, ◌==◌, from_bits, nat_le, nat_lt}
+use Rattle.std.specs.Prelude.{◌≡◌, ℕ, zero, suc, ◌+◌, ◌-◌, ◌*◌, ◌<◌, ◌≤◌, cond, not, ◌&&◌, List, [], ◌∷◌, length, ◌==◌, from_bits, nat_le, nat_lt}
 use Rattle.std.specs.Float.{binary32, binary64}
 use Rattle.area.specs.declared.sweep.Walk.{Walk}
 use Rattle.area.specs.Layout.{Row, row_no}

@@ -1,6 +1,6 @@
 -- When an axis "is moved by hand or program", read twice: by the frame's words alone, as document 01 names them, and in the
 -- narrowest way, where only a move that the steps heed counts. Axis d is 0 for x and 1 for y.
-use Rattle.core.specs.Prelude.{◌≡◌, ℕ, ◌+◌, Bool, true, false, cond, not, ◌&&◌, ◌||◌, List, ◌==◌, slice_index_or}
+use Rattle.std.specs.Prelude.{◌≡◌, ℕ, ◌+◌, Bool, true, false, cond, not, ◌&&◌, ◌||◌, List, ◌==◌, slice_index_or}
 use Rattle.std.specs.Float.Ieee.{eq, ne}
 use Rattle.numbers.specs.Table.{Table}
 use Rattle.numbers.specs.F32.{zero}

@@ -1,5 +1,5 @@
 -- "`Vec2` and `Vec2b` with `[d]`: two-element arrays", read by the axis d, 0 for x and 1 for y.
-use Rattle.core.specs.Prelude.{ℕ, Bool, false, List, slice_index_or}
+use Rattle.std.specs.Prelude.{ℕ, Bool, false, List, slice_index_or}
 use Rattle.std.specs.Prelude.{Float}
 use Rattle.std.specs.Float.{nan}
 

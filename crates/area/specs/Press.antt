@@ -1,5 +1,5 @@
 -- The bar loop's `if let Some(pointer_pos)`, and check 7. `handle` is handle_rect's side along the axis.
-use Rattle.core.specs.Prelude.{ℕ, Bool, false, cond, not, ◌&&◌}
+use Rattle.std.specs.Prelude.{ℕ, Bool, false, cond, not, ◌&&◌}
 use Rattle.std.specs.Prelude.{Float}
 use Rattle.std.specs.Float.Ieee.{le, eq}
 use Rattle.numbers.specs.F32.{minus, times, zero, half}

@@ -1,5 +1,5 @@
 -- The answer of an accepted frame: the state that `end` stores, and ScrollAreaOutput with what the host gets back.
-use Rattle.core.specs.Prelude.{Bool, not, ◌&&◌, ◌||◌, List, [], ◌∷◌}
+use Rattle.std.specs.Prelude.{Bool, not, ◌&&◌, ◌||◌, List, [], ◌∷◌}
 use Rattle.std.specs.Bool.{beq}
 use Rattle.std.specs.Prelude.{Float}
 use Rattle.numbers.specs.F32.{zero}

@@ -1,6 +1,6 @@
 -- A list of frame calls in bytes: for each call a flag, 0 for a call by value and any other for a lent one, and the frame; the last frame
 -- may be shorter. Every call is by table T.
-use Rattle.core.specs.Prelude.{◌≡◌, ℕ, zero, suc, ◌-◌, ◌≤◌, cond, List, [], ◌∷◌, map, length, take, drop, ◌==◌}
+use Rattle.std.specs.Prelude.{◌≡◌, ℕ, zero, suc, ◌-◌, ◌≤◌, cond, List, [], ◌∷◌, map, length, take, drop, ◌==◌}
 use Rattle.numbers.specs.Table.{table_at}
 use Rattle.area.specs.State.{default}
 use Rattle.area.specs.Lists.{Call, by_value, lent, Told, of_frame, of_run, of_reset, told_from, Run, Whole}

@@ -1,5 +1,5 @@
 -- What `begin` takes of the available space, on one axis d; e is the other axis.
-use Rattle.core.specs.Prelude.{ℕ, Bool, cond}
+use Rattle.std.specs.Prelude.{ℕ, Bool, cond}
 use Rattle.std.specs.Prelude.{Float}
 use Rattle.numbers.specs.F32.{plus, minus, times}
 use Rattle.numbers.specs.Scalar.{max_of, min_of, flag_of}

@@ -1,5 +1,5 @@
 -- `State::default`, document 02's remembered time, and the offset readers.
-use Rattle.core.specs.Prelude.{◌≡◌, true, false, List, [], ◌∷◌, pos}
+use Rattle.std.specs.Prelude.{◌≡◌, true, false, List, [], ◌∷◌, pos}
 use Rattle.std.specs.Prelude.{refl, Float}
 use Rattle.std.specs.Float.{binary64}
 use Rattle.std.specs.Float.Ieee.{of_bits, of_int}

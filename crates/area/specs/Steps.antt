@@ -1,7 +1,7 @@
 -- "The steps of demand 3 are fed each call's frame bytes and nothing else, alike for both forms (a state left counts as returned)."
 -- Document 02: "The steps of demand 3 take for each call the loaded table that it uses", T where it uses none; "Lists may then hold resets,
 -- which the steps of demand 3 take in their places among the accepted frames".
-use Rattle.core.specs.Prelude.{ℕ, Bool, true, cond, List, [], ◌∷◌, ◌==◌}
+use Rattle.std.specs.Prelude.{ℕ, Bool, true, cond, List, [], ◌∷◌, ◌==◌}
 use Rattle.numbers.specs.Table.{Table}
 use Rattle.area.specs.Frame.{frame_of}
 use Rattle.area.specs.Clock.{reset_of}

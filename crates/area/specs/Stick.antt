@@ -1,6 +1,6 @@
 -- The bar loop's first lines: "maybe force increase in offset to keep scroll stuck to end position, unless this axis had an
 -- explicit scroll adjustment".
-use Rattle.core.specs.Prelude.{Bool, cond, not, ◌&&◌}
+use Rattle.std.specs.Prelude.{Bool, cond, not, ◌&&◌}
 use Rattle.std.specs.Prelude.{Float}
 use Rattle.area.specs.declared.prepared.AxisMotion.{AxisMotion}
 

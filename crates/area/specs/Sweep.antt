@@ -1,6 +1,6 @@
 -- Checks 2 to 5 in one walk over the words, in order: after the first n words, how many they are, and the number kept, "the lowest of
 -- 2 to 5 that these alone show, or 0".
-use Rattle.core.specs.Prelude.{◌≡◌, ℕ, zero, suc, ◌/◌, ◌<◌, ◌≤◌, true, cond, not, List, length, ◌==◌, nat_lt}
+use Rattle.std.specs.Prelude.{◌≡◌, ℕ, zero, suc, ◌/◌, ◌<◌, ◌≤◌, true, cond, not, List, length, ◌==◌, nat_lt}
 use Rattle.area.specs.declared.sweep.Swept.{Swept}
 use Rattle.area.specs.Frame.{word_no}
 use Rattle.area.specs.Checks.{shows_no, any_shows, lowest_where, frame_refusal}

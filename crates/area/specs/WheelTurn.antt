@@ -1,5 +1,5 @@
 -- Prepared::end, "wheel": who hears it, and a turn of it on one axis.
-use Rattle.core.specs.Prelude.{◌≡◌, ℕ, Bool, true, false, cond, not, ◌&&◌, ◌||◌, List}
+use Rattle.std.specs.Prelude.{◌≡◌, ℕ, Bool, true, false, cond, not, ◌&&◌, ◌||◌, List}
 use Rattle.std.specs.Bool.{beq}
 use Rattle.std.specs.Prelude.{Float}
 use Rattle.std.specs.Float.Ieee.{neg}

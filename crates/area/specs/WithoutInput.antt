@@ -1,5 +1,5 @@
 -- What a host runs after a refusal: the same frame without its input.
-use Rattle.core.specs.Prelude.{◌≡◌, ℕ, suc, ◌+◌, ◌/◌, Bool, true, false, cond, ◌||◌, List, [], ◌∷◌, ◌==◌}
+use Rattle.std.specs.Prelude.{◌≡◌, ℕ, suc, ◌+◌, ◌/◌, Bool, true, false, cond, ◌||◌, List, [], ◌∷◌, ◌==◌}
 use Rattle.std.specs.Prelude.{refl}
 use Rattle.numbers.specs.Table.{Table}
 use Rattle.area.specs.Pair.{flag}

@@ -1,5 +1,5 @@
 // Targets and deltas: where the content asks to be scrolled to, and what that does to the motion of one axis.
-ghost use Rattle.core.specs.Prelude.{◌≡◌, ◌<◌};
+ghost use Rattle.std.specs.Prelude.{◌≡◌, ◌<◌};
 ghost use Rattle.area.specs.Frame.{Whole, frame_of};
 ghost use Rattle.area.specs.Adjust as Spec;
 

@@ -1,5 +1,5 @@
 // The axis struct of a frame. It is built twice: from last frame's bounds in `begin`, from this frame's for the wheel.
-ghost use Rattle.core.specs.Prelude.{◌≡◌};
+ghost use Rattle.std.specs.Prelude.{◌≡◌};
 ghost use Rattle.area.specs.AxisPhysics as Spec;
 
 use axis::{AxisPhysics, KineticScrollStyle, scroll_bounds};

@@ -1,5 +1,5 @@
 // The first half of a frame, before the content is known: the space, and how far drag, step or a target moves each axis.
-ghost use Rattle.core.specs.Prelude.{◌≡◌, ◌<◌};
+ghost use Rattle.std.specs.Prelude.{◌≡◌, ◌<◌};
 ghost use Rattle.numbers.specs.Table.{table_of};
 ghost use Rattle.area.specs.Frame.{Whole, frame_of};
 ghost use Rattle.area.specs.Begin as Spec;

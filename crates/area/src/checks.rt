@@ -1,5 +1,5 @@
 // Checks 1 to 5 on a frame's bytes, whether or not the steps read them, check 6 on a state, and all that goes before 7.
-ghost use Rattle.core.specs.Prelude.{◌≡◌};
+ghost use Rattle.std.specs.Prelude.{◌≡◌};
 ghost use Rattle.area.specs.Checks as Spec;
 
 use crate::clock::clock_refusal;

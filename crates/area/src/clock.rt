@@ -1,5 +1,5 @@
 // The host's clock, which may not run backwards, and the call for a clock that was set back.
-ghost use Rattle.core.specs.Prelude.{◌≡◌, ◌+◌, ◌*◌, ◌≤◌, length};
+ghost use Rattle.std.specs.Prelude.{◌≡◌, ◌+◌, ◌*◌, ◌≤◌, length};
 ghost use Rattle.words.specs.Words.{put_at};
 ghost use Rattle.area.specs.Frame.{Whole, time_words};
 ghost use Rattle.area.specs.Clock as Spec;

@@ -1,5 +1,5 @@
 // What was put into the area in this frame. Each field is read from its own words.
-ghost use Rattle.core.specs.Prelude.{◌≡◌, ◌<◌};
+ghost use Rattle.std.specs.Prelude.{◌≡◌, ◌<◌};
 ghost use Rattle.area.specs.Adjust.{request_at};
 ghost use Rattle.area.specs.Pair.{num};
 ghost use Rattle.area.specs.Frame.{Whole, frame_of};

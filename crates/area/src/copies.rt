@@ -1,6 +1,6 @@
 // A value once more, field by field: a copy as a whole also moves the unused bytes between the fields, and the processor
 // waits for those.
-ghost use Rattle.core.specs.Prelude.{◌≡◌};
+ghost use Rattle.std.specs.Prelude.{◌≡◌};
 
 use crate::prepared::AxisMotion;
 use crate::state::{MaybeTarget, OffsetTarget, ScrollingToTarget};

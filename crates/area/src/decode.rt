@@ -1,5 +1,5 @@
 // What a word or some words in a row stand for. They are numbered from 1, as in the document.
-ghost use Rattle.core.specs.Prelude.{◌≡◌, ◌<◌};
+ghost use Rattle.std.specs.Prelude.{◌≡◌, ◌<◌};
 ghost use Rattle.area.specs.Pair.{num, flag};
 ghost use Rattle.area.specs.Space.{side_of};
 ghost use Rattle.area.specs.Frame as Spec;

@@ -1,5 +1,5 @@
 // How a frame begins to move one axis: the host's explicit offset, then the hand on the content or the axis's own motion.
-ghost use Rattle.core.specs.Prelude.{◌≡◌, ◌<◌};
+ghost use Rattle.std.specs.Prelude.{◌≡◌, ◌<◌};
 ghost use Rattle.numbers.specs.Table.{table_of};
 ghost use Rattle.area.specs.Frame.{Whole, frame_of};
 ghost use Rattle.area.specs.Drive as Spec;

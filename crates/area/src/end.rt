@@ -1,5 +1,5 @@
 // The second half of a frame: targets and deltas, sizes, the wheel, sticking, bars, the last clamp and the stuck flags.
-ghost use Rattle.core.specs.Prelude.{◌≡◌, ◌<◌};
+ghost use Rattle.std.specs.Prelude.{◌≡◌, ◌<◌};
 ghost use Rattle.area.specs.Frame.{Whole, frame_of};
 ghost use Rattle.area.specs.End as Spec;
 

@@ -1,5 +1,5 @@
 // How long the content, the inner and the outer rectangle are along one axis, now that the content is known.
-ghost use Rattle.core.specs.Prelude.{◌≡◌, ◌<◌};
+ghost use Rattle.std.specs.Prelude.{◌≡◌, ◌<◌};
 ghost use Rattle.area.specs.Frame.{Whole, frame_of};
 ghost use Rattle.area.specs.Extent as Spec;
 

@@ -1,5 +1,5 @@
 // The end of a frame on one axis: the last clamp, and whether the list now stands on its end.
-ghost use Rattle.core.specs.Prelude.{◌≡◌};
+ghost use Rattle.std.specs.Prelude.{◌≡◌};
 ghost use Rattle.area.specs.FinalClamp as Spec;
 
 use crate::geometry::{has_target, pick};

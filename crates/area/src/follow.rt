@@ -1,5 +1,5 @@
 // A scroll target under way. Nothing else moves the axis then: its velocity is gone.
-ghost use Rattle.core.specs.Prelude.{◌≡◌};
+ghost use Rattle.std.specs.Prelude.{◌≡◌};
 ghost use Rattle.area.specs.Follow as Spec;
 
 use crate::prepared::{AxisBegun, AxisMotion};

@@ -1,5 +1,5 @@
 // What both halves of a frame ask of points, rectangles and options.
-ghost use Rattle.core.specs.Prelude.{◌≡◌};
+ghost use Rattle.std.specs.Prelude.{◌≡◌};
 ghost use Rattle.area.specs.Frame.{Whole, frame_of};
 ghost use Rattle.area.specs.Geometry as Spec;
 

@@ -1,5 +1,5 @@
 // Where one axis's bar stands and where its handle is on it.
-ghost use Rattle.core.specs.Prelude.{◌≡◌, ◌<◌};
+ghost use Rattle.std.specs.Prelude.{◌≡◌, ◌<◌};
 ghost use Rattle.area.specs.Frame.{Whole, frame_of};
 ghost use Rattle.area.specs.Handle as Spec;
 

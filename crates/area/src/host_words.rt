@@ -1,5 +1,5 @@
 // What the Rust reads from Ui, Context and Response. Each field is read from its own words.
-ghost use Rattle.core.specs.Prelude.{◌≡◌, ◌<◌, slice_index_or};
+ghost use Rattle.std.specs.Prelude.{◌≡◌, ◌<◌, slice_index_or};
 ghost use Rattle.area.specs.Pair.{num};
 ghost use Rattle.area.specs.Space.{side_of};
 ghost use Rattle.area.specs.Bar.{no_response};

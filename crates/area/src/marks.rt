@@ -1,6 +1,6 @@
 // What one word shows, in the walk of checks 2 to 5. The walk keeps a mark, the number shown times 128 plus the number of the word, so that
 // the lower mark is the lower number and, of equal numbers, the earlier word; 0 is none. A word after word `last` is not kept.
-ghost use Rattle.core.specs.Prelude.{◌≡◌, ◌<◌, ◌≤◌, if◌then◌else◌, ◌==◌, from_bits, nat_lt};
+ghost use Rattle.std.specs.Prelude.{◌≡◌, ◌<◌, ◌≤◌, if◌then◌else◌, ◌==◌, from_bits, nat_lt};
 ghost use Rattle.std.specs.Float.{binary32};
 ghost use Rattle.std.specs.Float.Ieee.{lt};
 ghost use Rattle.numbers.specs.F32.{zero};

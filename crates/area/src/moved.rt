@@ -1,5 +1,5 @@
 // Whether a frame moves an axis by hand or program, by its words alone, heeded or not.
-ghost use Rattle.core.specs.Prelude.{◌≡◌, ◌<◌};
+ghost use Rattle.std.specs.Prelude.{◌≡◌, ◌<◌};
 ghost use Rattle.area.specs.Frame.{Whole};
 ghost use Rattle.area.specs.Moved as Spec;
 

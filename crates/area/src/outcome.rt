@@ -1,5 +1,5 @@
 // What a frame puts out besides the state, and what a refusal puts out.
-ghost use Rattle.core.specs.Prelude.{◌≡◌};
+ghost use Rattle.std.specs.Prelude.{◌≡◌};
 ghost use Rattle.area.specs.Outcome as Spec;
 
 use crate::bar::HandleRect;

@@ -1,5 +1,5 @@
 // Pairs read by the axis d, 0 for x and 1 for y.
-ghost use Rattle.core.specs.Prelude.{◌≡◌, ◌<◌};
+ghost use Rattle.std.specs.Prelude.{◌≡◌, ◌<◌};
 ghost use Rattle.area.specs.Pair as Spec;
 
 pub fn num(pair: [f32; 2], d: usize) -> f32

@@ -1,5 +1,5 @@
 // A press on one axis's bar.
-ghost use Rattle.core.specs.Prelude.{◌≡◌};
+ghost use Rattle.std.specs.Prelude.{◌≡◌};
 ghost use Rattle.area.specs.Press as Spec;
 
 use crate::frame::MaybePos2;

@@ -1,5 +1,5 @@
 // The answer of an accepted frame, put together from its two halves.
-ghost use Rattle.core.specs.Prelude.{◌≡◌};
+ghost use Rattle.std.specs.Prelude.{◌≡◌};
 ghost use Rattle.area.specs.Frame.{Whole, frame_of};
 ghost use Rattle.area.specs.PutOut as Spec;
 

@@ -1,5 +1,5 @@
 // A list of calls in bytes, in either form of the frame call.
-ghost use Rattle.core.specs.Prelude.{◌≡◌, ◌≤◌, length, slice_set};
+ghost use Rattle.std.specs.Prelude.{◌≡◌, ◌≤◌, length, slice_set};
 ghost use Rattle.numbers.specs.Table.{table_of};
 ghost use Rattle.area.specs.Lists.{FrameSays};
 ghost use Rattle.area.specs.Replay.{Part, Replayed};

@@ -1,5 +1,5 @@
 // How the scroll area was built. Each field is read from its own words.
-ghost use Rattle.core.specs.Prelude.{◌≡◌, ◌<◌, slice_index_or};
+ghost use Rattle.std.specs.Prelude.{◌≡◌, ◌<◌, slice_index_or};
 ghost use Rattle.area.specs.Pair.{flag, num};
 ghost use Rattle.area.specs.Drive.{no_given_offset};
 ghost use Rattle.area.specs.Frame.{Whole, frame_of};

@@ -1,5 +1,5 @@
 // The settling run: frames until the list rests.
-ghost use Rattle.core.specs.Prelude.{◌≡◌};
+ghost use Rattle.std.specs.Prelude.{◌≡◌};
 ghost use Rattle.numbers.specs.Table.{table_at, table_of};
 ghost use Rattle.area.specs.Frame.{Whole};
 ghost use Rattle.area.specs.SettlingRun as Spec;

@@ -1,5 +1,5 @@
 // The space that a frame begins with: what is available, less the bars, and what of it the content is clipped to.
-ghost use Rattle.core.specs.Prelude.{◌≡◌, ◌<◌};
+ghost use Rattle.std.specs.Prelude.{◌≡◌, ◌<◌};
 ghost use Rattle.area.specs.Frame.{Whole, frame_of};
 ghost use Rattle.area.specs.Space as Spec;
 

@@ -1,5 +1,5 @@
 // What an area remembers from frame to frame.
-ghost use Rattle.core.specs.Prelude.{◌≡◌};
+ghost use Rattle.std.specs.Prelude.{◌≡◌};
 ghost use Rattle.area.specs.State as Spec;
 ghost use Rattle.area.specs.Lists.{AllLists};
 

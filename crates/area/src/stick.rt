@@ -1,5 +1,5 @@
 // Staying on the last entry.
-ghost use Rattle.core.specs.Prelude.{◌≡◌};
+ghost use Rattle.std.specs.Prelude.{◌≡◌};
 ghost use Rattle.area.specs.Stick as Spec;
 
 use crate::prepared::AxisMotion;

@@ -1,5 +1,5 @@
 // How bars and motion look. Each field is read from its own words.
-ghost use Rattle.core.specs.Prelude.{◌≡◌, ◌<◌};
+ghost use Rattle.std.specs.Prelude.{◌≡◌, ◌<◌};
 ghost use Rattle.area.specs.Pair.{num};
 ghost use Rattle.area.specs.Frame.{Whole, frame_of};
 

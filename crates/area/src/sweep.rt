@@ -2,7 +2,7 @@
 // kept. No word is read twice: what a later one needs is carried along, an option's flag, the start of a range, both mins of a rectangle, the
 // time's low word. The words of an option that is off are counted unread. The word numbers stand in the code, so that all of it folds into
 // loads and tests.
-ghost use Rattle.core.specs.Prelude.{◌≡◌, ◌+◌, [], ◌∷◌, length};
+ghost use Rattle.std.specs.Prelude.{◌≡◌, ◌+◌, [], ◌∷◌, length};
 ghost use Rattle.area.specs.Layout as At;
 ghost use Rattle.area.specs.Marks as Marks;
 ghost use Rattle.area.specs.Sweep as Spec;

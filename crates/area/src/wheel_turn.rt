@@ -1,5 +1,5 @@
 // The wheel: who hears it, and what a turn of it does to one axis.
-ghost use Rattle.core.specs.Prelude.{◌≡◌, ◌<◌};
+ghost use Rattle.std.specs.Prelude.{◌≡◌, ◌<◌};
 ghost use Rattle.area.specs.Frame.{Whole, frame_of};
 ghost use Rattle.area.specs.WheelTurn as Spec;
 

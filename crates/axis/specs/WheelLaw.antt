@@ -1,6 +1,6 @@
 -- Document 02's K6, "Which wheel turns are taken": what integrators read from the wheel's answer. Nothing of the wheel's own definition is
 -- named here, so that the law can be read by itself (docs/WHEEL.md has it row by row).
-use Rattle.core.specs.Prelude.{◌≡◌, ℕ, Bool, true, false, cond, not, ◌&&◌, ◌||◌, ◌==◌}
+use Rattle.std.specs.Prelude.{◌≡◌, ℕ, Bool, true, false, cond, not, ◌&&◌, ◌||◌, ◌==◌}
 use Rattle.std.specs.Prelude.{Float}
 use Rattle.std.specs.Float.Ieee.{lt, le, eq, ne}
 use Rattle.numbers.specs.F32.{minus, zero}

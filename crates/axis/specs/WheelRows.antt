@@ -1,5 +1,5 @@
 -- docs/WHEEL.md, row by row: what the law alone (specs/WheelLaw.antt) says of who takes a turn.
-use Rattle.core.specs.Prelude.{◌≡◌, Bool, true, false, ◌||◌}
+use Rattle.std.specs.Prelude.{◌≡◌, Bool, true, false, ◌||◌}
 use Rattle.std.specs.Prelude.{Float}
 use Rattle.std.specs.Float.Ieee.{eq, ne}
 use Rattle.numbers.specs.F32.{zero}

@@ -1,8 +1,8 @@
 -- Five statements that look like the law of specs/WheelLaw.antt, each false of the call that is named here: what it answers, by computation. The
 -- statements themselves are the edits law_* of must-fail/, and the program replay_axis runs the five calls.
-use Rattle.core.specs.Prelude.{◌≡◌, ℕ, Bool, true, false, from_bits}
+use Rattle.std.specs.Prelude.{◌≡◌, ℕ, Bool, true, false}
 use Rattle.std.specs.Prelude.{refl, Float}
-use Rattle.std.specs.Float.Ieee.{of_int, neg, add, sub, mul, div, lt, le, eq, ne}
+use Rattle.std.specs.Float.Ieee.{of_bits, of_int, neg, add, sub, mul, div, lt, le, eq, ne}
 use Rattle.numbers.specs.F32.{over, num, one}
 use Rattle.numbers.specs.Scalar.{is_finite, abs_of, copysign_of, signum_of, max_of, min_of}
 use Rattle.numbers.specs.Range.{clamp_of, contains_of}
@@ -55,7 +55,7 @@ unfolding
     trackpad_drag_of can_scroll can_rubber_band is_momentum is_trackpad
     wheel_call_of lowest_of put_out_wheel exceeds_limit axis_exceeds_limit is_reversed is_decay_time_outside is_style_outside
     is_finite abs_of copysign_of signum_of max_of min_of clamp_of contains_of
-    from_bits of_int neg add sub mul div lt le eq ne
+    of_bits of_int neg add sub mul div lt le eq ne
 wheel_tried = record {
   can_at_the_bounds = refl;
   band_with_a_parent_alone = (refl, refl);

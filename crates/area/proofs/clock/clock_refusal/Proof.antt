@@ -1,5 +1,5 @@
 use mathlib.Core.Path.{sym, ap, ◌∙◌}
-use Rattle.core.specs.Prelude.{Bool, cond}
+use Rattle.std.specs.Prelude.{Bool, cond}
 use borrow.Author.Rules.{rules}
 use lib.Ieee.{Float, lt}
 use Rattle.area.specs.Frame.{host_of, frame_of}

@@ -2,7 +2,7 @@
 -- The borrow is opened, which gives the struct's cell; the whole struct is copied out of it and passed to `reset`; what that answers is
 -- stored over the cell; and the borrow is closed at it. The state is plain data, so what it owns is made anew (`owned`) where it is asked for.
 -- Assumes nothing.
-use Rattle.core.specs.Prelude.{◌≡◌, ℕ, List, [], ◌∷◌}
+use Rattle.std.specs.Prelude.{◌≡◌, ℕ, List, [], ◌∷◌}
 use mathlib.Core.Path.{refl}
 use seplogic.Ra.Ura.{Ura}
 use seplogic.Ra.TreeShare.{full_share}

@@ -4,7 +4,7 @@
 -- so what either owns is made anew (`owned`) wherever it is asked for, and no field is named anywhere below.
 -- The slices are Copy: one copy of each goes to `frame_by`, and one is kept for the exit.
 -- Assumes nothing.
-use Rattle.core.specs.Prelude.{◌≡◌, ℕ, List, [], ◌∷◌, length}
+use Rattle.std.specs.Prelude.{◌≡◌, ℕ, List, [], ◌∷◌, length}
 use mathlib.Core.Path.{refl, ap}
 use seplogic.Ra.Ura.{Ura}
 use seplogic.Ra.TreeShare.{full_share}

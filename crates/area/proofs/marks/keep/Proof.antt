@@ -1,5 +1,5 @@
 use mathlib.Core.Path.{sym, ap, ◌∙◌}
-use Rattle.core.specs.Prelude.{◌+◌, ◌*◌, Bool, cond, eqb, ltb}
+use Rattle.std.specs.Prelude.{◌+◌, ◌*◌, Bool, cond, eqb, ltb}
 use borrow.Author.Rules.{rules}
 use Rattle.area.specs.Marks.{kept_at}
 use Rattle.area.proofs.marks.keep.Statement.{statement}

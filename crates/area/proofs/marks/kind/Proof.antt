@@ -1,5 +1,5 @@
 use mathlib.Core.Path.{sym, ap, ◌∙◌}
-use Rattle.core.specs.Prelude.{Bool, cond}
+use Rattle.std.specs.Prelude.{Bool, cond}
 use borrow.Author.Rules.{rules}
 use Rattle.area.specs.Checks.{shows2, shows3, shows4, shows5}
 use Rattle.area.specs.Marks.{kept_with, shown_of}

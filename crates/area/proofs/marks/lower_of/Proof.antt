@@ -1,6 +1,6 @@
 -- From the test of the code to the definition, so that another operand is refused as one.
 use mathlib.Core.Path.{sym, ap}
-use Rattle.core.specs.Prelude.{Bool, cond}
+use Rattle.std.specs.Prelude.{Bool, cond}
 use Rattle.area.proofs.marks.lower_of.Statement.{statement}
 use Rattle.area.proofs.marks.lower_of.Tie as tie
 

@@ -1,5 +1,5 @@
 -- `replay` meets its contract: the invariant is `Upto`, and the measure is what is left of the list.
-use Rattle.core.specs.Prelude.{ℕ, ◌-◌, ◌<◌, ◌≤◌, List, length}
+use Rattle.std.specs.Prelude.{ℕ, ◌-◌, ◌<◌, ◌≤◌, List, length}
 use native.Mathlib.Omega.{arith}
 use borrow.Author.Rules.{rules}
 use Rattle.numbers.specs.Table.{table_of}

@@ -1,5 +1,5 @@
 use mathlib.Core.Path.{sym, ap}
-use Rattle.core.specs.Prelude.{Bool, cond}
+use Rattle.std.specs.Prelude.{Bool, cond}
 use borrow.Author.Rules.{rules}
 use Rattle.area.specs.SettlingRun.{run_refusal}
 use Rattle.area.proofs.settling_run.run_refusal.Statement.{statement}

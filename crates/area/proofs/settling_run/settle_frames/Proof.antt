@@ -1,5 +1,5 @@
 -- `settle_frames` meets its contract: the invariant is `Upto`, and the measure is what is left of the limit.
-use Rattle.core.specs.Prelude.{◌≡◌, ◌-◌, ◌<◌, ◌≤◌, length}
+use Rattle.std.specs.Prelude.{◌≡◌, ◌-◌, ◌<◌, ◌≤◌, length}
 use native.Mathlib.Omega.{arith}
 use mathlib.Core.Path.{sym, subst, ◌∙◌}
 use borrow.Author.Rules.{rules}

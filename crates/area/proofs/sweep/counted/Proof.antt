@@ -1,4 +1,4 @@
-use Rattle.core.specs.Prelude.{◌-◌}
+use Rattle.std.specs.Prelude.{◌-◌}
 use native.Mathlib.Nat.{le_of_lt}
 use native.Mathlib.Omega.{arith}
 use borrow.Author.Tests.{leb-false, ltb-false}

@@ -1,5 +1,5 @@
 use mathlib.Core.Path.{refl}
-use Rattle.core.specs.Prelude.{◌+◌, [], ◌∷◌}
+use Rattle.std.specs.Prelude.{◌+◌, [], ◌∷◌}
 use native.Mathlib.Omega.{arith}
 use borrow.Author.Rules.{rules}
 use Rattle.area.specs.Checks.{is_heeded}

@@ -1,5 +1,5 @@
 use mathlib.Core.Path.{refl}
-use Rattle.core.specs.Prelude.{◌+◌}
+use Rattle.std.specs.Prelude.{◌+◌}
 use borrow.Author.Rules.{rules}
 use Rattle.area.specs.Layout.{size}
 use Rattle.area.specs.Marks.{sweep_rows}

@@ -1,5 +1,5 @@
 use mathlib.Core.Path.{refl, ◌∙◌}
-use Rattle.core.specs.Prelude.{◌+◌}
+use Rattle.std.specs.Prelude.{◌+◌}
 use native.Mathlib.Nat.{add_assoc}
 use borrow.Author.Rules.{rules}
 use Rattle.area.specs.Layout.{kind}

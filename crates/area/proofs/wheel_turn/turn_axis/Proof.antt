@@ -1,4 +1,4 @@
-use Rattle.core.specs.Prelude.{◌≡◌, ℕ, ◌<◌, Bool, List}
+use Rattle.std.specs.Prelude.{◌≡◌, ℕ, ◌<◌, Bool, List}
 use mathlib.Core.Path.{sym, subst}
 use borrow.Author.Rules.{rules}
 use Rattle.area.specs.Frame.{frame_of}

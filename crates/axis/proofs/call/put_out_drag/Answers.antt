@@ -1,0 +1,10 @@
+use Rattle.axis.specs.Call.{put_out_drag}
+use Rattle.axis.proofs.call.put_out_drag.Goals as goal
+
+pub returns-then-is_finite : goal.returns-then-is_finite
+unfolding put_out_drag
+returns-then-is_finite c = rw (← c.is_finite.ensures, c.if-is_finite.true)
+
+pub returns : goal.returns
+unfolding put_out_drag
+returns c = rw (← c.is_finite.ensures, c.if-is_finite.false)
