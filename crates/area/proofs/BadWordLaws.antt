@@ -1,5 +1,5 @@
 -- The word of the number kept is the first after which it is kept, and shows it itself. Assumes nothing.
-use Rattle.std.specs.Prelude.{◌≡◌, ℕ, zero, suc, ◌%◌, ◌<◌, ◌≤◌, Bool, true, false, cond, not, eqb, ltb, ◌≢◌, List, length}
+use Rattle.std.specs.Prelude.{◌≡◌, ℕ, zero, suc, ◌%◌, ◌<◌, ◌≤◌, Bool, true, false, cond, not, eqb, ltb, ◌==◌, ◌≢◌, List, length}
 use mathlib.Core.Path.{refl, sym, ap, ◌∙◌, subst}
 use native.Mathlib.Omega.{arith}
 use borrow.Author.Tests.{eqb-true, eqb-false, ne_eqb, eq-eqb, le-ltb}
@@ -36,7 +36,10 @@ since_first s (suc n) some = go (next_change s n) (since_first s n)
     go : Change (lowest_of s n) (lowest_of s (suc n)) → (0 < lowest_of s n → first_keeping s (lowest_of s n) n ≡ since s n) → first_keeping s (lowest_of s (suc n)) (suc n) ≡ since s (suc n)
     go (same e) before =
         let some_before = subst (λ (l : ℕ). 0 < l) e some in
-        rw (e, before some_before, ne_eqb (since s n) 0 (λ z. omega (arith, z, since_some s n some_before)), eq-eqb (lowest_of s n) (lowest_of s n) refl)
+        subst
+        (λ (k : ℕ). cond (first_keeping s k n == 0) (cond (lowest_of s (suc n) == k) (suc n) 0) (first_keeping s k n) ≡ since s (suc n))
+        (sym e)
+        (rw (before some_before, ne_eqb (since s n) 0 (λ z. omega (arith, z, since_some s n some_before)), eq-eqb (lowest_of s (suc n)) (lowest_of s n) e))
     go (first e h) before = changed (λ g. absurd (g e)) (λ z. omega (arith, e, h, z))
     go (lower l h) before = changed (λ g. l) (λ z. omega (arith, l, z))
 

@@ -80,7 +80,7 @@ pub fn settle_frames(
     ensures { result ≡ Spec.settle_from (table_of table.now) increment limit state bytes.now }
 {
     let mut frame: [u8; 416] = [0; 416];
-    bytes::copy(bytes, &mut frame);
+    frame.copy_from_slice(bytes);
     let mut state = state;
     let mut used = 0;
     while used < limit {

@@ -13,7 +13,7 @@ pub extern "C" fn strakobud_table_load(bytes: &[u8], table: &mut [u8; 8200]) -> 
     let refusal = numbers::load(bytes);
     let loads = refusal == 0;
     if loads {
-        bytes::copy(bytes, table);
+        table.copy_from_slice(bytes);
         return 0;
     }
     refusal

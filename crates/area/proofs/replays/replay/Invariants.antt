@@ -1,0 +1,12 @@
+use Rattle.std.specs.Prelude.{ℕ, ◌-◌, ◌<◌, ◌≤◌, List, length}
+use native.Mathlib.Omega.{arith}
+use Rattle.numbers.specs.Table.{table_of}
+use Rattle.area.proofs.ReplayLaws.{Upto, begins, turns, finishes, same_length_at}
+-- `replay` meets its contract: the invariant is `Upto`, and the measure is what is left of the list.
+use Rattle.area.proofs.replays.replay.Given as goal
+
+abbrev pub invariant-loop-at : goal.invariant-loop-at
+invariant-loop-at l = (l.at ≤ length l.calls) × Upto l.calls l.initial.refusals l.state l.at l.i l.refusals
+
+abbrev pub decreases-loop-at : goal.decreases-loop-at
+decreases-loop-at l = length l.calls - l.at

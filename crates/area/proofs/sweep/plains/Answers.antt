@@ -1,0 +1,12 @@
+use mathlib.Core.Path.{refl}
+use Rattle.std.specs.Prelude.{◌+◌}
+use Rattle.area.specs.Layout.{plain}
+use Rattle.area.specs.Marks.{sweep_rows}
+use Rattle.area.proofs.SweepLaws.{shown_word}
+use Rattle.area.proofs.sweep.plains.Goals as goal
+
+pub returns : goal.returns
+unfolding sweep_rows
+returns c =
+    let a = c.args in
+    rw (shown_word plain a.s.now a.n (refl, refl, refl), shown_word plain a.s.now (a.n + 1) (refl, refl, refl), ← c.word_at.ensures, ← c.plain-mark.ensures, ← c.word_at-2.ensures, ← c.plain.ensures)

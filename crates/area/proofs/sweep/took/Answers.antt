@@ -1,0 +1,4 @@
+use Rattle.area.proofs.sweep.took.Goals as goal
+
+pub returns : goal.returns
+returns c = rw (← c.counted-count.ensures)
