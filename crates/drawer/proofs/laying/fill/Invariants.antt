@@ -1,0 +1,13 @@
+use mathlib.Core.Path.{◌≡◌, sym, ap, ◌∙◌}
+use Prim.Native.Nat.{ℕ, ◌<◌, ◌≤◌, ◌-◌, ◌*◌}
+use native.Mathlib.Omega.{arith}
+use lib.ListN.{length}
+use Rattle.drawer.specs.Calls.{width}
+use Rattle.drawer.proofs.FillLaws.{fresh_up_to, fresh_first, fresh_next, fresh_all, fresh_length, fresh_start}
+use Rattle.drawer.proofs.laying.fill.Given as goal
+
+abbrev pub invariant-loop-r : goal.invariant-loop-r
+invariant-loop-r l = (0 < l.r) × (l.r ≤ l.n) × (length l.initial.drawer ≡ 4 * (width * l.n)) × (l.drawer ≡ fresh_up_to l.n l.r l.initial.drawer)
+
+abbrev pub decreases-loop-r : goal.decreases-loop-r
+decreases-loop-r l = l.n - l.r

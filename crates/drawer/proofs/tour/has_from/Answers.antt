@@ -1,0 +1,62 @@
+use mathlib.Core.Path.{◌≡◌, refl, sym, ◌∙◌}
+use Prim.Native.Nat.{◌-◌}
+use native.Mathlib.Omega.{arith}
+use borrow.Author.Tests.{not-true, not-false}
+use Rattle.words.specs.Words.{word_at}
+use Rattle.drawer.proofs.WidthLaws.{stands}
+use Rattle.drawer.specs.Tours.{has_from}
+use Rattle.drawer.proofs.TourLaws.{has_off, has_here, has_next, has_last, record_below}
+use Rattle.drawer.proofs.tour.has_from.Goals as goal
+
+pub loop-left-init : goal.loop-left-init
+loop-left-init c = refl
+
+pub returns-then-not-on : goal.returns-then-not-on
+returns-then-not-on c =
+    let a = c.args in
+    sym (has_off a.width (word_at a.s.now) a.n a.x c.loop-left.left c.loop-left.r (sym c.is_record-on.ensures ∙ not-true c.is_record-on.result c.if-not-on.true-raw))
+    ∙ c.loop-left.invariant
+
+pub id_in-requires : goal.id_in-requires
+id_in-requires c =
+    let a = c.args in
+    let on = c.is_record-on in
+    let there = stands a.width c.loop-left.r a.n a.s.now c.requires (record_below a.n c.loop-left.r (sym on.ensures ∙ not-false on.result c.if-not-on.false-raw)) in
+    there
+
+pub returns-then-same : goal.returns-then-same
+returns-then-same c =
+    let a = c.args in
+    let on = c.is_record-on in
+    sym (has_here a.width (word_at a.s.now) a.n a.x c.loop-left.left c.loop-left.r (omega arith) (sym on.ensures ∙ not-false on.result c.if-not-on.false-raw)
+    (rw c.id_in.ensures at c.if-same.true-raw))
+    ∙ c.loop-left.invariant
+
+pub overflow_mul-width : goal.overflow_mul-width
+overflow_mul-width c =
+    let a = c.args in
+    let on = c.is_record-on in
+    let there = stands a.width c.loop-left.r a.n a.s.now c.requires (record_below a.n c.loop-left.r (sym on.ensures ∙ not-false on.result c.if-not-on.false-raw)) in
+    omega (arith, there)
+
+pub word_in-r-requires : goal.word_in-r-requires
+word_in-r-requires c =
+    let a = c.args in
+    let on = c.is_record-on in
+    let there = stands a.width c.loop-left.r a.n a.s.now c.requires (record_below a.n c.loop-left.r (sym on.ensures ∙ not-false on.result c.if-not-on.false-raw)) in
+    omega (arith, there)
+
+pub loop-left-preserved : goal.loop-left-preserved
+loop-left-preserved c =
+    let a = c.args in
+    let on = c.is_record-on in
+    rw c.word_in-r.ensures
+    (sym (has_next a.width (word_at a.s.now) a.n a.x c.loop-left.left (c.loop-left.left - 1) c.loop-left.r (omega arith) (sym on.ensures ∙ not-false on.result c.if-not-on.false-raw)
+    (rw c.id_in.ensures at c.if-same.false-raw))
+    ∙ c.loop-left.invariant)
+
+pub returns : goal.returns
+returns c =
+    let a = c.args in
+    sym (has_last a.width (word_at a.s.now) a.n a.x c.loop-left.left c.loop-left.r (omega arith))
+    ∙ c.loop-left.invariant
