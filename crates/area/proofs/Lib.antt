@@ -28,3 +28,4 @@ pub mod ListLaws
 pub mod ReplayLaws
 pub mod Values
 pub mod Calls
+pub mod HeldLaws

@@ -118,15 +118,15 @@ module _ (s frame table run used : List ℕ) where
   unfolding settle_under up_front_on ran_under
   run_is_run is = rw (ap (λ (b : List ℕ). is_damaged (word_at b) 0) is ∙ written_is_undamaged S)
 
-  told_is : told ≡ area.settleUnder (table_of table) S frame (increment_of run) (limit_of run)
+  told_is : told ≡ area.settle_under (table_of table) S frame (increment_of run) (limit_of run)
   told_is = sym (run_holds (table_of table) S frame (increment_of run) (limit_of run)).by_steps
 
   told_is_ran : eqb up_front_lem 0 ≡ true → told ≡ ran
-  unfolding area.settleUnder
+  unfolding area.settle_under
   told_is_ran h = told_is ∙ rw h
 
   told_is_given : eqb up_front_lem 0 ≡ false → told ≡ ended_with up_front_lem S
-  unfolding area.settleUnder
+  unfolding area.settle_under
   told_is_given h = told_is ∙ rw h
 
   ran_stands : IsRecord s → AreBytes frame → AreTable table → (t : Bool) → eqb up_front_lem 0 ≡ t → OneRun (ran_by up_front_lem ran s used)
@@ -254,7 +254,7 @@ call_lent S on_reset are = tt
 
 feed_lent : (S : State) (calls : List RecordCall) → AreCalls calls → AllLent (feed_from S (map call_of calls))
 feed_lent S [] are = tt
-feed_lent S (call ∷ calls) are = both_lent (fed_by S (call_of call)) _ (call_lent S call are.0) (feed_lent _ calls are.1)
+feed_lent S (call ∷ calls) are = both_lent (fed_by S (call_of call)) _ (call_lent S call are.0) (feed_lent (state_from S (fed_by S (call_of call))) calls are.1)
 
 calls_are : {s : List ℕ} {calls : List RecordCall} {answers : List RecordTold} {t : List ℕ} → RecordRun s calls answers t → AreCalls calls
 calls_are ends = tt

@@ -38,5 +38,5 @@ pub whole_of_run : (state frame run : List ℕ) (r : ℕ) → r ≡ up_front_on 
 unfolding up_front_on
 whole_of_run state frame run r e a =
     let S = state_of state in
-    area.whole-of-run S frame (increment_of run) (limit_of run) (settle_refusal S frame (increment_of run) (limit_of run)) refl
+    area.whole_of_run S frame (increment_of run) (limit_of run) (settle_refusal S frame (increment_of run) (limit_of run)) refl
     (passed_by (is_damaged (word_at state) 0) frame _ (ap (λ (k : ℕ). eqb k 0) (sym e) ∙ a))
