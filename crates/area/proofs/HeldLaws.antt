@@ -1,33 +1,27 @@
 -- The numbers that a frame stores are ones that their formats hold, if those of the state that it began with are: what is passed on is held,
 -- and what is computed is rounded. Assumes nothing.
-use mathlib.Core.Bool.{Bool, true, false, cond, not, ◌&&◌, ◌||◌}
+use mathlib.Core.Bool.{Bool, not}
 use mathlib.Core.List.{List, [], ◌∷◌}
-use Prim.Native.Nat.{ℕ, zero, suc, ◌<◌}
+use Prim.Native.Nat.{ℕ, zero, suc}
 use lib.Dec.{T}
-use lib.Ieee.{Float, nan, binary32, binary64, fits, lt, le, eq, ne}
-use lib.Ieee.Fits.{add-fits, sub-fits, mul-fits, nan-fits, neg-fits}
+use lib.Ieee.{Float, binary32, binary64, fits, eq}
+use lib.Ieee.Fits.{add-fits, sub-fits, mul-fits, neg-fits}
 use lib.Ieee.Bits.{of_bits-fits}
 use Rattle.numbers.specs.F32.{plus, minus, times, over, one}
 use Rattle.numbers.specs.F32 as F32
 use Rattle.numbers.specs.Table.{Table}
-use Rattle.numbers.specs.Convert.{widen_of}
-use Rattle.numbers.specs.Blend.{lerp_of}
 use Rattle.numbers.specs.declared.range.Rangef.{Rangef}
 use Rattle.numbers.specs.declared.shape.Pos2.{Pos2}
-use Rattle.numbers.specs.declared.shape.Rect.{Rect}
 use Rattle.axis.specs.declared.physics.AxisPhysics.{AxisPhysics}
 use Rattle.axis.specs.declared.physics.KineticScrollStyle.{KineticScrollStyle}
-use Rattle.axis.specs.declared.step.Stepped.{Stepped}
 use Rattle.axis.specs.declared.wheel.WheelScroll.{WheelScroll}
-use Rattle.axis.specs.declared.wheel.Wheeled.{Wheeled}
-use Rattle.axis.specs.Step.{step_of}
 use Rattle.axis.specs.Wheel.{wheel_of}
 use Rattle.axis.proofs.FitsLaws.{either, zero_held, clamp_held, lerp_held, remap_held, AreBounds, bounds_held, drag_held, step_held, wheel_held, Is32}
 use Rattle.area.specs.Pair.{num, flag}
 use Rattle.area.specs.Geometry.{along_of, pick_of}
 use Rattle.area.specs.Layout as At
 use Rattle.area.specs.Frame.{frame_of, settings_of, host_of, given_offset_no, maybe_number_no, number_no, flag_no, time_no, rect_no, pos2_no}
-use Rattle.area.specs.State.{no_target, no_press, clamped_to}
+use Rattle.area.specs.State.{no_target, clamped_to}
 use Rattle.area.specs.AxisPhysics.{physics_of}
 use Rattle.area.specs.Drive.{given_offset_or, no_given_offset, opened_of, before_of, dragged_of, dragged_to, left_alone, released_of, stepped_of, driven_of}
 use Rattle.area.specs.Follow.{approach_of, moved_towards, moved_by, arrived, is_near, followed_of}
@@ -35,16 +29,15 @@ use Rattle.area.specs.Adjust as Adjust
 use Rattle.area.specs.Space.{space_by, space_of, side_of}
 use Rattle.area.specs.Begin.{begin_of, prepared_of, begun_from, driven_from, last_physics_of, input_of}
 use Rattle.area.specs.Extent.{extent_by, extent_of}
-use Rattle.area.specs.WheelTurn.{turned_by, turned_of, taken, untaken, wheel_physics_of, wheel_scroll_of}
-use Rattle.area.specs.Stick.{stick_of, sent_to_end}
+use Rattle.area.specs.WheelTurn.{turned_by, turned_of, wheel_physics_of}
+use Rattle.area.specs.Stick.{stick_of}
 use Rattle.area.specs.Press.{press_of, press_at, start_offset_of, new_start_offset, offset_of, is_on_handle, handle_top_pos_at_bottom}
-use Rattle.area.specs.Bar.{bound_motion_of, bounded_motion, shown_bar, hidden_bar, turn_bar, bar_of}
-use Rattle.area.specs.Handle.{handle_of, track_of, show_factor_of}
+use Rattle.area.specs.Bar.{bound_motion_of, shown_bar, turn_bar, bar_of}
+use Rattle.area.specs.Handle.{handle_of, track_of}
 use Rattle.area.specs.FinalClamp.{final_clamp_of}
-use Rattle.area.specs.End.{bar_space_of, show_stage, stuck_stage, barred_stage, final_stage, ended_by, finished_of, axis_ended_of, shrunk_rect_of, end_of, is_press_blocked}
+use Rattle.area.specs.End.{bar_space_of, stuck_stage, barred_stage, ended_by, finished_of, axis_ended_of, end_of}
 use Rattle.area.specs.PutOut.{next_state, answer_of}
-use Rattle.area.specs.Outcome.{refused_of, is_answer_finite}
-use Rattle.area.specs.Checks.{refusal_before7}
+use Rattle.area.specs.Outcome.{refused_of}
 use Rattle.area.specs.Call.{run_of, call_under}
 use Rattle.area.specs.declared.state.State.{State}
 use Rattle.area.specs.declared.state.MaybeTarget.{MaybeTarget}
@@ -53,7 +46,6 @@ use Rattle.area.specs.declared.state.OffsetTarget.{OffsetTarget}
 use Rattle.area.specs.declared.state.MaybePress.{MaybePress}
 use Rattle.area.specs.declared.state.StartOffset.{StartOffset}
 use Rattle.area.specs.declared.frame.Frame.{Frame}
-use Rattle.area.specs.declared.frame.Settings.{Settings}
 use Rattle.area.specs.declared.frame.GivenOffset.{GivenOffset}
 use Rattle.area.specs.declared.frame.MaybeNumber.{MaybeNumber}
 use Rattle.area.specs.declared.frame.MaybePos2.{MaybePos2}
@@ -63,7 +55,6 @@ use Rattle.area.specs.declared.prepared.AxisMotion.{AxisMotion}
 use Rattle.area.specs.declared.prepared.AxisBefore.{AxisBefore}
 use Rattle.area.specs.declared.prepared.AxisBegun.{AxisBegun}
 use Rattle.area.specs.declared.prepared.AxisSpace.{AxisSpace}
-use Rattle.area.specs.declared.prepared.Prepared.{Prepared}
 use Rattle.area.specs.declared.drive.AxisInput.{AxisInput}
 use Rattle.area.specs.declared.adjust.AskedDelta.{AskedDelta}
 use Rattle.area.specs.declared.adjust.Adjusted.{Adjusted}
@@ -71,10 +62,8 @@ use Rattle.area.specs.declared.extent.AxisExtent.{AxisExtent}
 use Rattle.area.specs.declared.wheel_turn.WheelHeard.{WheelHeard}
 use Rattle.area.specs.declared.wheel_turn.Turned.{Turned}
 use Rattle.area.specs.declared.handle.Track.{Track}
-use Rattle.area.specs.declared.handle.BarSpace.{BarSpace}
 use Rattle.area.specs.declared.press.Pressed.{Pressed}
 use Rattle.area.specs.declared.bar.Barred.{Barred}
-use Rattle.area.specs.declared.final_clamp.FinalClamp.{FinalClamp}
 use Rattle.area.specs.declared.end.Extents.{Extents}
 use Rattle.area.specs.declared.end.AxisEnded.{AxisEnded}
 use Rattle.area.specs.declared.end.Ended.{Ended}

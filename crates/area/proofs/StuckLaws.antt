@@ -10,7 +10,6 @@ use Rattle.axis.specs.declared.physics.AxisPhysics.{AxisPhysics}
 use Rattle.axis.specs.declared.wheel.WheelScroll.{WheelScroll}
 use Rattle.area.specs.Pair.{flag}
 use Rattle.area.specs.Drive.{before_of, opened_of, dragged_offset, dragged_to, left_alone, dragged_of, stepped_of, driven_of}
-use Rattle.area.specs.Follow.{moved_by}
 use Rattle.area.specs.Begin.{input_of, driven_from, begun_from, axis_begun_of}
 use Rattle.area.specs.Adjust as Adjust
 use Rattle.area.specs.WheelTurn.{wheel_physics_of, wheel_scroll_of, taken, untaken, unheard, turned_by, turned_of}

@@ -6,9 +6,7 @@ use Rattle.numbers.specs.F32.{minus, zero, one}
 use Rattle.numbers.specs.Scalar.{abs_of}
 use Rattle.numbers.specs.Blend.{lerp_of, interpolation_factor_of}
 use Rattle.area.specs.declared.state.MaybeTarget.{MaybeTarget}
-use Rattle.area.specs.declared.state.OffsetTarget.{OffsetTarget}
 use Rattle.area.specs.declared.state.ScrollingToTarget.{ScrollingToTarget}
-use Rattle.area.specs.declared.prepared.AxisMotion.{AxisMotion}
 use Rattle.area.specs.declared.prepared.AxisBegun.{AxisBegun}
 use Rattle.area.specs.State.{no_target}
 

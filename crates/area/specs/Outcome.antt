@@ -1,5 +1,5 @@
 -- The outputs besides the state, a refusal's outputs, and check 8.
-use Rattle.std.specs.Prelude.{ℕ, Bool, false, ◌&&◌, List, [], ◌∷◌, slice_index_or}
+use Rattle.std.specs.Prelude.{ℕ, Bool, false, ◌&&◌, [], ◌∷◌, slice_index_or}
 use Rattle.numbers.specs.F32.{zero}
 use Rattle.numbers.specs.declared.shape.Rect.{Rect}
 use Rattle.area.specs.Checks.{is_pair_finite, is_rect_finite, is_state_finite}

@@ -1,11 +1,11 @@
 -- Every number that drag, step, wheel and the scroll target of an axis leave is one that binary32 holds, if those that they pass on are.
 -- An operation rounds, so what it gives always is. Assumes nothing.
 use mathlib.Core.Bool.{Bool, true, false, cond, not, ◌&&◌, ◌||◌}
-use lib.Ieee.{Float, nan, inf, fin, binary32, fits, lt, le, eq, ne, neg}
-use lib.Ieee.Fits.{add-fits, sub-fits, mul-fits, div-fits, nan-fits, inf-fits, cond-fits}
+use lib.Ieee.{Float, nan, inf, fin, binary32, fits, lt, le, eq, ne}
+use lib.Ieee.Fits.{add-fits, mul-fits, div-fits, nan-fits, inf-fits}
 use lib.Ieee.Bits.{of_bits-fits}
 use lib.Dec.{T}
-use Rattle.numbers.specs.F32.{plus, minus, times, over, zero, one}
+use Rattle.numbers.specs.F32.{plus, minus, times, zero}
 use Rattle.numbers.specs.Scalar.{with_sign, sign_bit, copysign_of, max_of, min_of}
 use Rattle.numbers.specs.Range.{clamp_of, contains_of}
 use Rattle.numbers.specs.Blend.{lerp_of, remap_of}

@@ -4,7 +4,7 @@ use mathlib.Core.Path.{◌≡◌}
 use mathlib.Core.Logic.{∥∥₁_elim}
 use mathlib.Core.List.{List, [], ◌∷◌}
 use Prim.Native.Nat.{ℕ, zero, suc}
-use lib.Ieee.{Float, binary32, binary64}
+use lib.Ieee.{Float, binary32}
 use lib.Ieee.Fits.{nan-fits}
 use base.Stored.{Coded-set}
 use Rattle.std.specs.Prelude.{length, slice_index_or}
@@ -12,7 +12,6 @@ use Rattle.numbers.specs.Table.{table_of}
 use Rattle.area.specs.Pair.{num}
 use Rattle.area.specs.State.{no_target, no_press}
 use Rattle.area.specs.Drive.{before_of}
-use Rattle.area.specs.Frame.{frame_of}
 use Rattle.area.specs.PutOut.{next_state}
 use Rattle.area.specs.End.{shrunk_rect_of}
 use Rattle.area.specs.Call.{call_under}
@@ -20,9 +19,9 @@ use Rattle.area.specs.declared.state.State.{State}
 use Rattle.area.specs.declared.state.OffsetTarget.{OffsetTarget}
 use Rattle.area.specs.declared.state.StartOffset.{StartOffset}
 use Rattle.area.specs.contracts.state.State as state
-use Rattle.area.proofs.HeldLaws.{Opens, IsLeft, stored_held}
+use Rattle.area.proofs.HeldLaws.{Opens, stored_held}
 use Rattle.records.specs.Record.{record_of, state_of}
-use Rattle.records.specs.Held.{Is32, Is64, ArePair, AreTargets, IsTarget, ArePresses, IsPress, IsHeld}
+use Rattle.records.specs.Held.{Is32, ArePair, AreTargets, IsTarget, ArePresses, IsPress, IsHeld}
 use Rattle.host.specs.Lists.{AreBytes, AreTable}
 use Rattle.records.proofs.BackLaws.{written_is_read}
 

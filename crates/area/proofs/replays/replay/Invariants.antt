@@ -1,7 +1,5 @@
-use Rattle.std.specs.Prelude.{ℕ, ◌-◌, ◌<◌, ◌≤◌, List, length}
-use native.Mathlib.Omega.{arith}
-use Rattle.numbers.specs.Table.{table_of}
-use Rattle.area.proofs.ReplayLaws.{Upto, begins, turns, finishes, same_length_at}
+use Rattle.std.specs.Prelude.{◌-◌, ◌≤◌, length}
+use Rattle.area.proofs.ReplayLaws.{Upto}
 -- `replay` meets its contract: the invariant is `Upto`, and the measure is what is left of the list.
 use Rattle.area.proofs.replays.replay.Given as goal
 

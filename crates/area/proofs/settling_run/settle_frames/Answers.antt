@@ -1,9 +1,7 @@
-use Rattle.std.specs.Prelude.{◌≡◌, ◌-◌, ◌<◌, ◌≤◌, length}
+use Rattle.std.specs.Prelude.{◌<◌, ◌≤◌}
 use native.Mathlib.Omega.{arith}
 use mathlib.Core.Path.{sym, subst, ◌∙◌}
 use borrow.Author.Tests.{not-true, not-false}
-use Rattle.numbers.specs.Table.{table_of}
-use Rattle.area.specs.SettlingRun.{settle_from}
 use Rattle.area.proofs.SettlingRunLaws.{Upto, begins, refused, rests, turns, finishes}
 -- `settle_frames` meets its contract: the invariant is `Upto`, and the measure is what is left of the limit.
 use borrow.Author.Rules.{rules}

@@ -29,7 +29,7 @@ unfolding turned_of wheel_physics_of
 returns-then-wheel-enabled c =
     let arg = c.args in
     let both = told arg.frame.now arg.d arg.before arg.space arg.extent arg.wheel arg.motion arg.rubber_banding c.turn_by.result c.requires.1
-        (rw (← c.direction_enabled-enabled.ensures, c.if-wheel-enabled.true, ← c.wheel_scroll-scroll.ensures, ← c.kinetic.ensures, ← c.physics_of-physics.ensures, ← c.turn_by.ensures)) in
+    (rw (← c.direction_enabled-enabled.ensures, c.if-wheel-enabled.true, ← c.wheel_scroll-scroll.ensures, ← c.kinetic.ensures, ← c.physics_of-physics.ensures, ← c.turn_by.ensures)) in
     record { answers = both.0; holds = both.1 }
 
 pub returns : goal.returns
@@ -37,6 +37,6 @@ unfolding turned_of wheel_physics_of
 returns c =
     let arg = c.args in
     let e : unturned arg.before arg.motion arg.rubber_banding ≡ turned_of (frame_of arg.frame.now) arg.d arg.before arg.space arg.extent arg.wheel arg.motion arg.rubber_banding =
-        rw (← c.direction_enabled-enabled.ensures, c.if-wheel-enabled.false) in
+    rw (← c.direction_enabled-enabled.ensures, c.if-wheel-enabled.false) in
     let both = told arg.frame.now arg.d arg.before arg.space arg.extent arg.wheel arg.motion arg.rubber_banding (unturned arg.before arg.motion arg.rubber_banding) c.requires.1 e in
     record { answers = both.0; holds = both.1 }

@@ -1,9 +1,6 @@
-use mathlib.Core.Path.{◌≡◌, sym, ◌∙◌, subst}
-use Prim.Native.Nat.{ℕ, ◌≤◌, ◌-◌, ◌*◌}
-use native.Mathlib.Omega.{arith}
-use borrow.Author.Tests.{not-true, not-false}
+use Prim.Native.Nat.{◌≤◌, ◌-◌, ◌*◌}
 use Rattle.words.specs.Words.{word_at}
-use Rattle.drawer.proofs.PassedLaws.{Passed, toured, refused_tour, refused_met, refused_single, passed_none, passed_next, passed_all, toured_count}
+use Rattle.drawer.proofs.PassedLaws.{Passed}
 use Rattle.drawer.proofs.check.is_filled.Given as goal
 
 abbrev pub invariant-loop-k : goal.invariant-loop-k

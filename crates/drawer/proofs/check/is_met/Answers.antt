@@ -1,6 +1,4 @@
 use mathlib.Core.Path.{◌≡◌, refl, sym, ap, ◌∙◌}
-use mathlib.Core.Bool.{false}
-use Prim.Native.Nat.{◌≤◌, ◌-◌}
 use native.Mathlib.Omega.{arith}
 use Rattle.drawer.specs.Tours.{is_met, among_first}
 use Rattle.drawer.proofs.TourLaws.{among_none, among_some}

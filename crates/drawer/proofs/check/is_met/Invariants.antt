@@ -1,9 +1,7 @@
-use mathlib.Core.Path.{◌≡◌, refl, sym, ap, ◌∙◌}
+use mathlib.Core.Path.{◌≡◌}
 use mathlib.Core.Bool.{false}
 use Prim.Native.Nat.{◌≤◌, ◌-◌}
-use native.Mathlib.Omega.{arith}
-use Rattle.drawer.specs.Tours.{is_met, among_first}
-use Rattle.drawer.proofs.TourLaws.{among_none, among_some}
+use Rattle.drawer.specs.Tours.{among_first}
 use Rattle.drawer.proofs.check.is_met.Given as goal
 
 abbrev pub invariant-loop-i : goal.invariant-loop-i

@@ -1,12 +1,7 @@
-use mathlib.Core.Path.{◌≡◌, refl, sym, ◌∙◌}
-use Prim.Native.Nat.{◌-◌, ◌%◌}
-use native.Mathlib.Omega.{arith}
-use borrow.Author.Tests.{not-true, not-false}
+use mathlib.Core.Path.{◌≡◌}
+use Prim.Native.Nat.{◌%◌}
 use Rattle.words.specs.Words.{word_at}
-use Rattle.drawer.proofs.WidthLaws.{stands}
 use Rattle.drawer.specs.Search.{is_stop, seek}
-use Rattle.drawer.proofs.TourLaws.{record_below}
-use Rattle.drawer.proofs.SeekLaws.{seek_off, seek_stop, seek_next, seek_last}
 use Rattle.drawer.proofs.find.link_to.Given as goal
 
 abbrev pub invariant-loop-left : goal.invariant-loop-left

@@ -21,21 +21,24 @@ pub returns-then-absent : goal.returns-then-absent
 unfolding forget_on
 returns-then-absent c =
     let a = c.args in
-    record { answers = (with_forgotten a.drawer.now _ _ a.id
-    (rw (
-      ← c.is_drawer-right.ensures,
-      not-false c.is_drawer-right.result c.if-not-right.false-raw,
-      ← c.link_in-p.ensures,
-      ← c.word-r.ensures,
-      c.if-absent.true-raw,
-    ))).0; kept = (with_forgotten a.drawer.now _ _ a.id
-    (rw (
-      ← c.is_drawer-right.ensures,
-      not-false c.is_drawer-right.result c.if-not-right.false-raw,
-      ← c.link_in-p.ensures,
-      ← c.word-r.ensures,
-      c.if-absent.true-raw,
-    ))).1 }
+    record {
+      answers = (with_forgotten a.drawer.now _ _ a.id
+          (rw (
+            ← c.is_drawer-right.ensures,
+            not-false c.is_drawer-right.result c.if-not-right.false-raw,
+            ← c.link_in-p.ensures,
+            ← c.word-r.ensures,
+            c.if-absent.true-raw,
+          ))).0;
+      kept = (with_forgotten a.drawer.now _ _ a.id
+          (rw (
+            ← c.is_drawer-right.ensures,
+            not-false c.is_drawer-right.result c.if-not-right.false-raw,
+            ← c.link_in-p.ensures,
+            ← c.word-r.ensures,
+            c.if-absent.true-raw,
+          ))).1;
+    }
 
 pub free_record-requires : goal.free_record-requires
 free_record-requires c =
@@ -51,20 +54,23 @@ pub returns : goal.returns
 unfolding forget_on
 returns c =
     let a = c.args in
-    record { answers = (with_forgotten a.drawer.now _ _ a.id
-    (rw (
-      ← c.is_drawer-right.ensures,
-      not-false c.is_drawer-right.result c.if-not-right.false-raw,
-      ← c.link_in-p.ensures,
-      ← c.word-r.ensures,
-      c.if-absent.false-raw,
-      c.free_record.ensures,
-    ))).0; kept = (with_forgotten a.drawer.now _ _ a.id
-    (rw (
-      ← c.is_drawer-right.ensures,
-      not-false c.is_drawer-right.result c.if-not-right.false-raw,
-      ← c.link_in-p.ensures,
-      ← c.word-r.ensures,
-      c.if-absent.false-raw,
-      c.free_record.ensures,
-    ))).1 }
+    record {
+      answers = (with_forgotten a.drawer.now _ _ a.id
+          (rw (
+            ← c.is_drawer-right.ensures,
+            not-false c.is_drawer-right.result c.if-not-right.false-raw,
+            ← c.link_in-p.ensures,
+            ← c.word-r.ensures,
+            c.if-absent.false-raw,
+            c.free_record.ensures,
+          ))).0;
+      kept = (with_forgotten a.drawer.now _ _ a.id
+          (rw (
+            ← c.is_drawer-right.ensures,
+            not-false c.is_drawer-right.result c.if-not-right.false-raw,
+            ← c.link_in-p.ensures,
+            ← c.word-r.ensures,
+            c.if-absent.false-raw,
+            c.free_record.ensures,
+          ))).1;
+    }

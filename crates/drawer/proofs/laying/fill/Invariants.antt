@@ -1,9 +1,8 @@
-use mathlib.Core.Path.{◌≡◌, sym, ap, ◌∙◌}
-use Prim.Native.Nat.{ℕ, ◌<◌, ◌≤◌, ◌-◌, ◌*◌}
-use native.Mathlib.Omega.{arith}
+use mathlib.Core.Path.{◌≡◌}
+use Prim.Native.Nat.{◌<◌, ◌≤◌, ◌-◌, ◌*◌}
 use lib.ListN.{length}
 use Rattle.drawer.specs.Calls.{width}
-use Rattle.drawer.proofs.FillLaws.{fresh_up_to, fresh_first, fresh_next, fresh_all, fresh_length, fresh_start}
+use Rattle.drawer.proofs.FillLaws.{fresh_up_to}
 use Rattle.drawer.proofs.laying.fill.Given as goal
 
 abbrev pub invariant-loop-r : goal.invariant-loop-r

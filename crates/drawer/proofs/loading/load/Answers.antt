@@ -21,7 +21,7 @@ link_in-requires c = sym c.is_drawer-right.ensures ∙ not-false c.is_drawer-rig
 
 pub returns-then-absent : goal.returns-then-absent
 unfolding load_on
-returns-then-absent c = 
+returns-then-absent c =
     let a = c.args in
     let named : c.word-r.result ≡ record_of width a.drawer.now a.id = c.word-r.ensures ∙ ap (word_at a.drawer.now) c.link_in.ensures in
     record { answers = rw (← c.is_drawer-right.ensures, not-false c.is_drawer-right.result c.if-not-right.false-raw, ← named, c.if-absent.true-raw); stands = tidied_holds }
@@ -55,13 +55,14 @@ tidied-words-requires c =
 
 pub returns : goal.returns
 unfolding load_on
-returns c = 
+returns c =
     let a = c.args in
     let named : c.word-r.result ≡ record_of width a.drawer.now a.id = c.word-r.ensures ∙ ap (word_at a.drawer.now) c.link_in.ensures in
     let ws = c.tidied-words.result in
     let long : length a.state.now ≡ 156 = search rules in
     let many : length ws ≡ 39 = ap length c.tidied-words.ensures.answers ∙ tidied_length _ _ in
-    record { answers = rw (
+    record {
+      answers = rw (
         ← c.is_drawer-right.ensures,
         not-false c.is_drawer-right.result c.if-not-right.false-raw,
         ← named,
@@ -69,4 +70,6 @@ returns c =
         c.put.ensures,
         whole_put ws a.state.now (omega (arith, long, many)),
         c.tidied-words.ensures.answers,
-      ); stands = tidied_holds }
+      );
+      stands = tidied_holds;
+    }

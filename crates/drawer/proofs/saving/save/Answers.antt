@@ -21,9 +21,12 @@ save_words-requires c =
     (kept_long st, kept_sound st (sym c.is_damaged-damaged.ensures ∙ c.if-damaged.false))
 
 pub returns : goal.returns
-returns c = 
+returns c =
     let a = c.args in
     let put = c.save_words in
-    record { answers = put.ensures.answers
+    record {
+      answers = put.ensures.answers
           ∙ ap (put_on a.drawer.now a.id) c.tidied-words.ensures.answers
-          ∙ sym (save_puts a.drawer.now a.id a.state.now (sym c.is_damaged-damaged.ensures ∙ c.if-damaged.false)); kept = put.ensures.kept }
+          ∙ sym (save_puts a.drawer.now a.id a.state.now (sym c.is_damaged-damaged.ensures ∙ c.if-damaged.false));
+      kept = put.ensures.kept;
+    }

@@ -12,9 +12,12 @@ pub returns-then-not-right : goal.returns-then-not-right
 unfolding put_on
 returns-then-not-right c =
     let a = c.args in
-    record { answers = (with_put a.drawer.now _ _ a.id a.words.now (omega arith) c.requires.0 (λ i. omega (arith, c.shared_slice_known-1.given i)) c.requires.1
-    (rw (← c.is_drawer-right.ensures, not-true c.is_drawer-right.result c.if-not-right.true-raw))).0; kept = (with_put a.drawer.now _ _ a.id a.words.now (omega arith) c.requires.0 (λ i. omega (arith, c.shared_slice_known-1.given i)) c.requires.1
-    (rw (← c.is_drawer-right.ensures, not-true c.is_drawer-right.result c.if-not-right.true-raw))).1 }
+    record {
+      answers = (with_put a.drawer.now _ _ a.id a.words.now (omega arith) c.requires.0 (λ i. omega (arith, c.shared_slice_known-1.given i)) c.requires.1
+          (rw (← c.is_drawer-right.ensures, not-true c.is_drawer-right.result c.if-not-right.true-raw))).0;
+      kept = (with_put a.drawer.now _ _ a.id a.words.now (omega arith) c.requires.0 (λ i. omega (arith, c.shared_slice_known-1.given i)) c.requires.1
+          (rw (← c.is_drawer-right.ensures, not-true c.is_drawer-right.result c.if-not-right.true-raw))).1;
+    }
 
 pub link_in-requires : goal.link_in-requires
 link_in-requires c = sym c.is_drawer-right.ensures ∙ not-false c.is_drawer-right.result c.if-not-right.false-raw
@@ -27,21 +30,24 @@ unfolding put_on
 returns-then-absent c =
     let a = c.args in
     let named : c.word-r.result ≡ record_of width a.drawer.now a.id = c.word-r.ensures ∙ ap (word_at a.drawer.now) c.link_in.ensures in
-    record { answers = (with_put a.drawer.now _ _ a.id a.words.now (omega arith) c.requires.0 (λ i. omega (arith, c.shared_slice_known-1.given i)) c.requires.1
-    (rw (
-      ← c.is_drawer-right.ensures,
-      not-false c.is_drawer-right.result c.if-not-right.false-raw,
-      ← named,
-      c.if-absent.true-raw,
-    )
-    c.save_new.ensures)).0; kept = (with_put a.drawer.now _ _ a.id a.words.now (omega arith) c.requires.0 (λ i. omega (arith, c.shared_slice_known-1.given i)) c.requires.1
-    (rw (
-      ← c.is_drawer-right.ensures,
-      not-false c.is_drawer-right.result c.if-not-right.false-raw,
-      ← named,
-      c.if-absent.true-raw,
-    )
-    c.save_new.ensures)).1 }
+    record {
+      answers = (with_put a.drawer.now _ _ a.id a.words.now (omega arith) c.requires.0 (λ i. omega (arith, c.shared_slice_known-1.given i)) c.requires.1
+          (rw (
+            ← c.is_drawer-right.ensures,
+            not-false c.is_drawer-right.result c.if-not-right.false-raw,
+            ← named,
+            c.if-absent.true-raw,
+          )
+          c.save_new.ensures)).0;
+      kept = (with_put a.drawer.now _ _ a.id a.words.now (omega arith) c.requires.0 (λ i. omega (arith, c.shared_slice_known-1.given i)) c.requires.1
+          (rw (
+            ← c.is_drawer-right.ensures,
+            not-false c.is_drawer-right.result c.if-not-right.false-raw,
+            ← named,
+            c.if-absent.true-raw,
+          )
+          c.save_new.ensures)).1;
+    }
 
 pub overflow_mul-r : goal.overflow_mul-r
 overflow_mul-r c =
@@ -66,18 +72,21 @@ unfolding put_on
 returns c =
     let a = c.args in
     let named : c.word-r.result ≡ record_of width a.drawer.now a.id = c.word-r.ensures ∙ ap (word_at a.drawer.now) c.link_in.ensures in
-    record { answers = (with_put a.drawer.now _ _ a.id a.words.now (omega arith) c.requires.0 (λ i. omega (arith, c.shared_slice_known-1.given i)) c.requires.1
-    (rw (
-      ← c.is_drawer-right.ensures,
-      not-false c.is_drawer-right.result c.if-not-right.false-raw,
-      ← named,
-      c.if-absent.false-raw,
-      c.put.ensures,
-    ))).0; kept = (with_put a.drawer.now _ _ a.id a.words.now (omega arith) c.requires.0 (λ i. omega (arith, c.shared_slice_known-1.given i)) c.requires.1
-    (rw (
-      ← c.is_drawer-right.ensures,
-      not-false c.is_drawer-right.result c.if-not-right.false-raw,
-      ← named,
-      c.if-absent.false-raw,
-      c.put.ensures,
-    ))).1 }
+    record {
+      answers = (with_put a.drawer.now _ _ a.id a.words.now (omega arith) c.requires.0 (λ i. omega (arith, c.shared_slice_known-1.given i)) c.requires.1
+          (rw (
+            ← c.is_drawer-right.ensures,
+            not-false c.is_drawer-right.result c.if-not-right.false-raw,
+            ← named,
+            c.if-absent.false-raw,
+            c.put.ensures,
+          ))).0;
+      kept = (with_put a.drawer.now _ _ a.id a.words.now (omega arith) c.requires.0 (λ i. omega (arith, c.shared_slice_known-1.given i)) c.requires.1
+          (rw (
+            ← c.is_drawer-right.ensures,
+            not-false c.is_drawer-right.result c.if-not-right.false-raw,
+            ← named,
+            c.if-absent.false-raw,
+            c.put.ensures,
+          ))).1;
+    }

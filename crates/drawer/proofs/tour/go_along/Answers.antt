@@ -1,12 +1,10 @@
-use mathlib.Core.Path.{◌≡◌, sym, ◌∙◌}
-use mathlib.Core.Bool.{true}
-use Prim.Native.Nat.{◌≤◌, ◌-◌, ◌+◌}
+use mathlib.Core.Path.{sym, ◌∙◌}
+use Prim.Native.Nat.{◌-◌, ◌+◌}
 use native.Mathlib.Omega.{arith}
 use borrow.Author.Tests.{not-true, not-false}
 use Rattle.words.specs.Words.{word_at}
 use Rattle.drawer.proofs.WidthLaws.{stands}
 use native.Mathlib.Nat.{sub-zero}
-use Rattle.drawer.specs.Tours.{tour_from}
 use Rattle.drawer.proofs.TourLaws.{tour_end, tour_out, tour_next, tour_last}
 use Rattle.drawer.proofs.tour.go_along.Goals as goal
 

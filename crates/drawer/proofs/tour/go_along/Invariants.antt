@@ -1,13 +1,8 @@
-use mathlib.Core.Path.{◌≡◌, sym, ◌∙◌}
+use mathlib.Core.Path.{◌≡◌}
 use mathlib.Core.Bool.{true}
-use Prim.Native.Nat.{◌≤◌, ◌-◌, ◌+◌}
-use native.Mathlib.Omega.{arith}
-use borrow.Author.Tests.{not-true, not-false}
+use Prim.Native.Nat.{◌≤◌, ◌-◌}
 use Rattle.words.specs.Words.{word_at}
-use Rattle.drawer.proofs.WidthLaws.{stands}
-use native.Mathlib.Nat.{sub-zero}
 use Rattle.drawer.specs.Tours.{tour_from}
-use Rattle.drawer.proofs.TourLaws.{tour_end, tour_out, tour_next, tour_last}
 use Rattle.drawer.proofs.tour.go_along.Given as goal
 
 abbrev pub invariant-loop-count : goal.invariant-loop-count

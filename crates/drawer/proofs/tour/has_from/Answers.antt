@@ -1,10 +1,9 @@
-use mathlib.Core.Path.{◌≡◌, refl, sym, ◌∙◌}
+use mathlib.Core.Path.{refl, sym, ◌∙◌}
 use Prim.Native.Nat.{◌-◌}
 use native.Mathlib.Omega.{arith}
 use borrow.Author.Tests.{not-true, not-false}
 use Rattle.words.specs.Words.{word_at}
 use Rattle.drawer.proofs.WidthLaws.{stands}
-use Rattle.drawer.specs.Tours.{has_from}
 use Rattle.drawer.proofs.TourLaws.{has_off, has_here, has_next, has_last, record_below}
 use Rattle.drawer.proofs.tour.has_from.Goals as goal
 

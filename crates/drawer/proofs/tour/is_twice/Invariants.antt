@@ -1,11 +1,6 @@
-use mathlib.Core.Path.{◌≡◌, sym, ap, ◌∙◌}
-use Prim.Native.Nat.{◌-◌}
-use native.Mathlib.Omega.{arith}
-use borrow.Author.Tests.{not-true, not-false}
+use mathlib.Core.Path.{◌≡◌}
 use Rattle.words.specs.Words.{word_at}
-use Rattle.drawer.proofs.WidthLaws.{stands}
 use Rattle.drawer.specs.Tours.{twice_from}
-use Rattle.drawer.proofs.TourLaws.{twice_off, twice_here, twice_next, twice_last, record_below}
 use Rattle.drawer.proofs.tour.is_twice.Given as goal
 
 abbrev pub invariant-loop-left : goal.invariant-loop-left

@@ -9,21 +9,21 @@ returns-then-is_damaged c = rw (← c.is_damaged.ensures, c.if-is_damaged.true, 
 pub returns-then-a-eq0 : goal.returns-then-a-eq0
 unfolding frame_under
 returns-then-a-eq0 c = rw (
-      ← c.is_damaged.ensures,
-      c.if-is_damaged.false,
-      ← c.state_of.ensures,
-      ← c.frame_by-a.ensures,
-      eq-eqb c.frame_by-a.result.outcome.refusal 0 c.if-a-eq0.true,
-      c.put_state.ensures,
-      c.put_outcome.ensures,
-    )
+  ← c.is_damaged.ensures,
+  c.if-is_damaged.false,
+  ← c.state_of.ensures,
+  ← c.frame_by-a.ensures,
+  eq-eqb c.frame_by-a.result.outcome.refusal 0 c.if-a-eq0.true,
+  c.put_state.ensures,
+  c.put_outcome.ensures,
+)
 
 pub returns : goal.returns
 unfolding frame_under
 returns c = rw (
-      ← c.is_damaged.ensures,
-      c.if-is_damaged.false,
-      ← c.state_of.ensures,
-      ← c.frame_by-a.ensures,
-      ne_eqb c.frame_by-a.result.outcome.refusal 0 c.if-a-eq0.false,
-    )
+  ← c.is_damaged.ensures,
+  c.if-is_damaged.false,
+  ← c.state_of.ensures,
+  ← c.frame_by-a.ensures,
+  ne_eqb c.frame_by-a.result.outcome.refusal 0 c.if-a-eq0.false,
+)

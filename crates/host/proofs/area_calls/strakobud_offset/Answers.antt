@@ -11,10 +11,10 @@ returns-then-is_damaged c = rw (← c.is_damaged.ensures, c.if-is_damaged.true)
 pub returns : goal.returns
 unfolding offset_on
 returns c = rw (
-      ← c.is_damaged.ensures,
-      c.if-is_damaged.false,
-      ← c.state_of.ensures,
-      ← c.clamped_offset-offset.ensures,
-      c.put_numbers.ensures,
-      put_all (number_words c.clamped_offset-offset.result) c.args.out.now (search rules),
-    )
+  ← c.is_damaged.ensures,
+  c.if-is_damaged.false,
+  ← c.state_of.ensures,
+  ← c.clamped_offset-offset.ensures,
+  c.put_numbers.ensures,
+  put_all (number_words c.clamped_offset-offset.result) c.args.out.now (search rules),
+)

@@ -6,6 +6,6 @@ use Rattle.host.proofs.area_calls.strakobud_reset.Goals as goal
 
 pub returns : goal.returns
 unfolding reset_on
-returns c = 
+returns c =
     let cleared = c.put_time.ensures in
     record { clears = cleared; stands = ap state_of cleared ∙ reset_stands _ c.put_time-arg-1.given.0.1 }

@@ -12,27 +12,27 @@ ran_under-r-requires c = whole_of_run c.args.state.now c.args.frame.now c.args.r
 pub returns-then-r-gt0 : goal.returns-then-r-gt0
 unfolding settle_under
 returns-then-r-gt0 c = rw (
-      ← c.up_front-refusal.ensures,
-      c.if-passed.true-raw,
-      ← c.state_of.ensures,
-      ← c.ran_under-r.ensures,
-      c.put.ensures,
-      put_all (c.ran_under-r.result.used ∷ []) c.args.used.now (search rules),
-      lt-ltb 0 c.ran_under-r.result.used c.if-r-gt0.true,
-      c.put_state.ensures,
-    )
+  ← c.up_front-refusal.ensures,
+  c.if-passed.true-raw,
+  ← c.state_of.ensures,
+  ← c.ran_under-r.ensures,
+  c.put.ensures,
+  put_all (c.ran_under-r.result.used ∷ []) c.args.used.now (search rules),
+  lt-ltb 0 c.ran_under-r.result.used c.if-r-gt0.true,
+  c.put_state.ensures,
+)
 
 pub returns-else-r-gt0 : goal.returns-else-r-gt0
 unfolding settle_under
 returns-else-r-gt0 c = rw (
-      ← c.up_front-refusal.ensures,
-      c.if-passed.true-raw,
-      ← c.state_of.ensures,
-      ← c.ran_under-r.ensures,
-      c.put.ensures,
-      put_all (c.ran_under-r.result.used ∷ []) c.args.used.now (search rules),
-      le-ltb 0 c.ran_under-r.result.used c.if-r-gt0.false,
-    )
+  ← c.up_front-refusal.ensures,
+  c.if-passed.true-raw,
+  ← c.state_of.ensures,
+  ← c.ran_under-r.ensures,
+  c.put.ensures,
+  put_all (c.ran_under-r.result.used ∷ []) c.args.used.now (search rules),
+  le-ltb 0 c.ran_under-r.result.used c.if-r-gt0.false,
+)
 
 pub returns : goal.returns
 unfolding settle_under

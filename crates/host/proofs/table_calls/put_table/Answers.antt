@@ -1,8 +1,7 @@
-use Prim.Native.Nat.{◌≤◌, ◌<◌, ◌-◌}
+use Prim.Native.Nat.{◌≤◌, ◌<◌}
 use native.Mathlib.Omega.{arith}
-use lib.ListN.{length}
-use mathlib.Core.Path.{◌≡◌, sym, ◌∙◌}
-use Rattle.host.proofs.TableLaws.{Upto, begins, entry_small, turns, finishes}
+use mathlib.Core.Path.{◌∙◌}
+use Rattle.host.proofs.TableLaws.{begins, entry_small, turns, finishes}
 -- The invariant is `Upto`: what is left to write leads to the whole table.
 use borrow.Author.Rules.{rules}
 use Rattle.host.proofs.table_calls.put_table.Goals as goal

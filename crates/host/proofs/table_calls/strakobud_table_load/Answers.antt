@@ -1,4 +1,4 @@
-use mathlib.Core.Path.{sym, subst, ◌∙◌}
+use mathlib.Core.Path.{sym, subst}
 use Rattle.numbers.specs.Table.{Served}
 use Rattle.host.specs.Table.{load_on}
 use Rattle.host.proofs.table_calls.strakobud_table_load.Goals as goal

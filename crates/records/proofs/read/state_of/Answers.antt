@@ -11,18 +11,18 @@ time_at-requires c = omega (arith, c.s-1.given)
 pub returns : goal.returns
 unfolding state_of
 returns c = rw (
-      ← c.pair_at.ensures,
-      ← c.pair_at-2.ensures,
-      ← c.offset_target_at.ensures,
-      ← c.offset_target_at-2.ensures,
-      ← c.flags_at.ensures,
-      ← c.flags_at-2.ensures,
-      ← c.flags_at-3.ensures,
-      ← c.pair_at-3.ensures,
-      ← c.start_offset_at.ensures,
-      ← c.start_offset_at-2.ensures,
-      ← c.flags_at-4.ensures,
-      ← c.maybe_rect_at.ensures,
-      ← c.flags_at-5.ensures,
-      ← c.time_at.ensures,
-    )
+  ← c.pair_at.ensures,
+  ← c.pair_at-2.ensures,
+  ← c.offset_target_at.ensures,
+  ← c.offset_target_at-2.ensures,
+  ← c.flags_at.ensures,
+  ← c.flags_at-2.ensures,
+  ← c.flags_at-3.ensures,
+  ← c.pair_at-3.ensures,
+  ← c.start_offset_at.ensures,
+  ← c.start_offset_at-2.ensures,
+  ← c.flags_at-4.ensures,
+  ← c.maybe_rect_at.ensures,
+  ← c.flags_at-5.ensures,
+  ← c.time_at.ensures,
+)

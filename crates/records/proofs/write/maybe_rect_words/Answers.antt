@@ -5,9 +5,9 @@ returns-in-Nothing c = rw c.in-Nothing.is
 
 pub returns-in-Some : goal.returns-in-Some
 returns-in-Some c = rw (
-      c.in-Some.is,
-      ← c.bits_of_f32.ensures,
-      ← c.bits_of_f32-in-Some.ensures,
-      ← c.bits_of_f32-in-Some-2.ensures,
-      ← c.bits_of_f32-in-Some-3.ensures,
-    )
+  c.in-Some.is,
+  ← c.bits_of_f32.ensures,
+  ← c.bits_of_f32-in-Some.ensures,
+  ← c.bits_of_f32-in-Some-2.ensures,
+  ← c.bits_of_f32-in-Some-3.ensures,
+)
