@@ -2,10 +2,11 @@
 
 use crate::frame_checks::frame_refusal;
 use crate::frame_state::State;
-use crate::judge;
 use crate::records::write_output;
 use crate::rectangles::{Pos2, Rect};
 use crate::words::from_bytes;
+
+pub use crate::judge::frame as rust_call;
 
 /// The answer of a frame call; on a refusal the state is the one given and the rest is zeros.
 #[derive(Clone, Copy, Debug, PartialEq)]
@@ -29,7 +30,7 @@ pub fn frame_call(state: State, bytes: &[u8]) -> Output {
         refusal => refusal,
     };
     match refusal {
-        0 => judge::frame(state, bytes),
+        0 => rust_call(state, bytes),
         refusal => Output::refused(refusal, state),
     }
 }

@@ -21,6 +21,7 @@ pub mod frame_vectors;
 pub mod host_calls;
 pub mod judge;
 pub mod number_vectors;
+pub mod numbers;
 pub mod random;
 pub mod records;
 pub mod run_vectors;
@@ -34,4 +35,4 @@ pub mod tables;
 pub mod wheel_law;
 pub mod words;
 
-pub use emath::{numbers, rectangles};
+pub use emath::rectangles;

@@ -2,8 +2,7 @@
 
 use std::f32::consts::E;
 
-use crate::numbers::{abs, copysign, max, min, powi2, signum, Rangef};
-use crate::tables::counted_exp;
+use crate::numbers::{abs, copysign, max, min, powi2, signum, Rangef, Stated as _};
 
 /// The style of one axis, as egui's type of that name.
 #[derive(Clone, Copy, Debug, PartialEq)]
@@ -140,7 +139,7 @@ impl AxisPhysics {
             *vel = 0.0;
             false
         } else {
-            let new_vel = *vel * counted_exp(-dt / decay_time);
+            let new_vel = *vel * (-dt / decay_time).stated_exp();
             *offset += decay_time * (*vel - new_vel);
             *vel = new_vel;
             true
@@ -290,7 +289,7 @@ fn critically_damped_spring_step(x0: f32, v0: f32, dt: f32, time_constant: f32) 
         return (0.0, 0.0);
     }
     let w = 1.0 / time_constant;
-    let e = counted_exp(-w * dt);
+    let e = (-w * dt).stated_exp();
     let a = v0 + w * x0;
     ((x0 + a * dt) * e, (v0 - a * w * dt) * e)
 }

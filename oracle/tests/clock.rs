@@ -1,10 +1,9 @@
 //! The time that a state remembers: what it turns back, what it does not, and the reset.
 
 use oracle::clock::{Remembering, StateBytes};
-use oracle::frame_call::frame_call;
+use oracle::frame_call::{frame_call, rust_call};
 use oracle::frame_vectors::{bare, full, Frame};
 use oracle::host_calls;
-use oracle::judge;
 use oracle::random::Random;
 use oracle::records::FLAGS;
 use oracle::run_vectors::lists::{list, moving, paced, pressed, NOW, SCREEN};
@@ -157,7 +156,7 @@ fn a_reset_lets_the_same_frame_through() {
     assert_eq!(kept, remembering(0.0));
     let output = kept.frame(&frame);
     assert_eq!(output, frame_call(moving(150.0, 90.0), &frame));
-    assert_eq!(output, judge::frame(moving(150.0, 90.0), &frame));
+    assert_eq!(output, rust_call(moving(150.0, 90.0), &frame));
     assert_eq!((kept.egui, kept.time), (output.state, NOW));
 }
 

@@ -162,7 +162,6 @@ fn every_argument_is_as_stated() {
 #[test]
 fn exp_counts_as_one_branch() {
     use oracle::branches::{count_of, Branch, BRANCHES};
-    use oracle::tables::counted_exp;
     let by_halvings = [
         Branch::ExpByTable,
         Branch::ExpByOneHalving,
@@ -177,7 +176,7 @@ fn exp_counts_as_one_branch() {
     for (x, branch) in inside.chain(beyond).chain(below) {
         let all = || -> u64 { BRANCHES.iter().map(|(branch, _)| count_of(*branch)).sum() };
         let before = (count_of(branch), all());
-        counted_exp(x);
+        x.stated_exp();
         let after = (count_of(branch), all());
         assert_eq!(after, (before.0 + 1, before.1 + 1), "exp({x})");
     }

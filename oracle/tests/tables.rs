@@ -3,7 +3,7 @@
 use oracle::axis_vectors::{random_list, Kind};
 use oracle::clock::run;
 use oracle::host_calls;
-use oracle::numbers::{exp, exp_by, TABLE};
+use oracle::numbers::{exp, exp_by, Stated as _, TABLE};
 use oracle::random::Random;
 use oracle::scenes::{fling_list, scene_list};
 use oracle::tables::*;
@@ -146,21 +146,21 @@ fn below_minus_16_the_squares_read_the_table_too() {
 #[test]
 fn t_serves_where_no_table_is_given() {
     let zeros = kept(Box::new([0; ENTRIES]));
-    assert_eq!(counted_exp(-1.0), exp(-1.0));
+    assert_eq!((-1.0).stated_exp(), exp(-1.0));
     under(zeros, || {
-        assert_eq!(counted_exp(-1.0), 0.0);
-        under(None, || assert_eq!(counted_exp(-1.0), exp(-1.0)));
-        under(&TABLE, || assert_eq!(counted_exp(-1.0), exp(-1.0)));
-        assert_eq!(counted_exp(-1.0), 0.0);
+        assert_eq!((-1.0).stated_exp(), 0.0);
+        under(None, || assert_eq!((-1.0).stated_exp(), exp(-1.0)));
+        under(&TABLE, || assert_eq!((-1.0).stated_exp(), exp(-1.0)));
+        assert_eq!((-1.0).stated_exp(), 0.0);
     });
-    assert_eq!(counted_exp(-1.0), exp(-1.0));
+    assert_eq!((-1.0).stated_exp(), exp(-1.0));
 }
 
 #[test]
 fn t_lent_is_t() {
     let lent = kept(load(&t_bytes()).expect("T loads"));
     for x in arguments() {
-        let found = under(lent, || counted_exp(x));
+        let found = under(lent, || x.stated_exp());
         assert_eq!(found.to_bits(), exp(x).to_bits(), "exp({x})");
     }
     for list in [scene_list(6, 5000), fling_list(6, 5000)] {

@@ -4,7 +4,8 @@ use super::Record;
 use crate::answers::Answer;
 use crate::axis_vectors::Call;
 use crate::clock::Remembering;
-use crate::tables::{counted_exp, kept, load, under, Table};
+use crate::numbers::Stated as _;
+use crate::tables::{kept, load, under, Table};
 use crate::words::{in_hex, shown};
 
 /// What a list has led to: the table that serves, none for T, and the state.
@@ -41,7 +42,7 @@ impl Run {
     }
 
     fn exp(&self, bits: u32) -> Answer {
-        let found = under(self.table, || counted_exp(f32::from_bits(bits)));
+        let found = under(self.table, || f32::from_bits(bits).stated_exp());
         let line = format!("exp{}\n", in_hex(&[bits, shown(found)]));
         Answer { refusal: 0, line }
     }

@@ -1,7 +1,6 @@
 //! Document 02's K4, "A maker's own decay table": its bytes, its load, and the table that serves in the place of T.
 
 mod bad;
-mod exp;
 mod good;
 
 use crate::branches::{met, Branch};
@@ -10,7 +9,6 @@ use crate::random::Random;
 
 pub use bad::{random_refused, refused, Refused};
 pub use emath::table::{given, under, Table, ENTRIES};
-pub use exp::counted_exp;
 pub use good::{good, random_good, Good};
 
 /// Document 02: "each 64 bits", and "8,200 bytes".

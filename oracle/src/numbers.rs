@@ -1,17 +1,24 @@
-//! exp as the port calls it, with the branches that it meets.
+//! emath's numbers, with exp as the port calls it: by a method that counts the branches that it meets.
 
-use emath::numbers::exp_by_given;
+pub use emath::numbers::*;
 
-use super::given;
 use crate::branches::{met, met_if, Branch};
+use crate::tables::given;
 
-/// emath's exp by the table that is given, and by T where none is; each call counts once.
-// Out of line, so that the look for a table does not change the code around it, whose cost bench/ counts.
-#[inline(never)]
-pub fn counted_exp(x: f32) -> f32 {
-    met(branch_of_exp(x));
-    met_if(given().is_some(), branch_of_given(x));
-    exp_by_given(x)
+/// exp under a name that f32 does not have itself.
+pub trait Stated {
+    fn stated_exp(self) -> f32;
+}
+
+impl Stated for f32 {
+    /// emath's exp by the table that is given, and by T where none is; each call counts once.
+    // Out of line, so that the look for a table does not change the code around it, whose cost bench/ counts.
+    #[inline(never)]
+    fn stated_exp(self) -> f32 {
+        met(branch_of_exp(self));
+        met_if(given().is_some(), branch_of_given(self));
+        exp_by_given(self)
+    }
 }
 
 /// Document 02: "repeated until the half is -16 or more", by the argument: once from -32 on, twice from -64 on, thrice from -80 on.
