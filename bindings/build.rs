@@ -1,4 +1,4 @@
-//! Links the archive that `rt staticlib host` writes.
+//! Links the archive that `tools/staticlib` writes.
 
 use std::env;
 use std::path::Path;

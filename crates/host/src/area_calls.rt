@@ -10,8 +10,7 @@ use area::{State, put_time};
 use records::{is_damaged, put_numbers, put_outcome, put_state, state_of};
 
 // A fresh state's record. Demand 3 holds of every list of frames, settling runs and resets on it, under tables or not.
-#[unsafe(no_mangle)]
-pub extern "C" fn strakobud_fresh(state: &mut [u8; 156])
+pub fn strakobud_fresh(state: &mut [u8; 156])
     ensures starts { state.new ≡ Spec.fresh_bytes }
     ensures lists { AllRecordLists state.new }
 {
@@ -19,8 +18,7 @@ pub extern "C" fn strakobud_fresh(state: &mut [u8; 156])
 }
 
 // Never refused: a damaged record keeps its other words. Words are counted from 0 here.
-#[unsafe(no_mangle)]
-pub extern "C" fn strakobud_reset(state: &mut [u8; 156])
+pub fn strakobud_reset(state: &mut [u8; 156])
     ensures clears { ResetOnSays state.old state.new }
     ensures stands { state_of state.new ≡ reset_of (state_of state.old) }
 {
@@ -28,8 +26,7 @@ pub extern "C" fn strakobud_reset(state: &mut [u8; 156])
 }
 
 // By table T.
-#[unsafe(no_mangle)]
-pub extern "C" fn strakobud_frame(state: &mut [u8; 156], frame: &[u8], out: &mut [u8; 100]) -> u32
+pub fn strakobud_frame(state: &mut [u8; 156], frame: &[u8], out: &mut [u8; 100]) -> u32
     ensures { record { refusal = result; state = state.new; out = out.new }
         ≡ Spec.frame_on state.old frame.now out.old }
 {
@@ -37,8 +34,7 @@ pub extern "C" fn strakobud_frame(state: &mut [u8; 156], frame: &[u8], out: &mut
     frame_under(state, frame, &none, out)
 }
 
-#[unsafe(no_mangle)]
-pub extern "C" fn strakobud_frame_by(
+pub fn strakobud_frame_by(
     state: &mut [u8; 156],
     frame: &[u8],
     table: &[u8; 8200],
@@ -79,8 +75,7 @@ pub fn damaged_refusal(frame: &[u8]) -> u32
     refusal
 }
 
-#[unsafe(no_mangle)]
-pub extern "C" fn strakobud_offset(state: &[u8; 156], out: &mut [u8; 8]) -> u32
+pub fn strakobud_offset(state: &[u8; 156], out: &mut [u8; 8]) -> u32
     ensures { record { refusal = result; out = out.new } ≡ Spec.offset_on state.now out.old }
 {
     if is_damaged(state, 0) {

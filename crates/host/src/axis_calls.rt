@@ -58,8 +58,7 @@ fn scroll_of(call: &[u8]) -> WheelScroll
     }
 }
 
-#[unsafe(no_mangle)]
-pub extern "C" fn strakobud_drag(call: &[u8; 32], out: &mut [u8; 4]) -> u32
+pub fn strakobud_drag(call: &[u8; 32], out: &mut [u8; 4]) -> u32
     ensures { record { refusal = result; out = out.new } ≡ Spec.drag_on call.now }
 {
     let c: &[u8] = call;
@@ -83,16 +82,14 @@ fn drag_of(call: &[u8]) -> DragAnswer
 }
 
 // By table T.
-#[unsafe(no_mangle)]
-pub extern "C" fn strakobud_step(call: &[u8; 40], out: &mut [u8; 12]) -> u32
+pub fn strakobud_step(call: &[u8; 40], out: &mut [u8; 12]) -> u32
     ensures { record { refusal = result; out = out.new } ≡ Spec.step_on call.now }
 {
     let none: [u8; 0] = [];
     step_under(call, &none, out)
 }
 
-#[unsafe(no_mangle)]
-pub extern "C" fn strakobud_step_by(call: &[u8; 40], table: &[u8; 8200], out: &mut [u8; 12]) -> u32
+pub fn strakobud_step_by(call: &[u8; 40], table: &[u8; 8200], out: &mut [u8; 12]) -> u32
     ensures { record { refusal = result; out = out.new } ≡ Spec.step_under (table_of table.now) call.now }
 {
     step_under(call, table, out)
@@ -138,8 +135,7 @@ fn step_of(call: &[u8], table: &[u8]) -> StepAnswer
     )
 }
 
-#[unsafe(no_mangle)]
-pub extern "C" fn strakobud_wheel(call: &[u8; 52], out: &mut [u8; 16]) -> u32
+pub fn strakobud_wheel(call: &[u8; 52], out: &mut [u8; 16]) -> u32
     ensures answers { record { refusal = result; out = out.new } ≡ Spec.wheel_on call.now }
     ensures holds { result ≡ 0 → Spec.WheelOnHolds call.now out.new }
 {

@@ -6,8 +6,7 @@ ghost use Rattle.drawer.specs.Calls as Spec;
 ghost use Rattle.drawer.specs.Lists.{AllDrawerLists, AllAscend};
 
 // Reads only the buffer's length. After it a load gives the last state saved under its id, whatever list of calls came before.
-#[unsafe(no_mangle)]
-pub extern "C" fn strakobud_drawer_lay(drawer: &mut [u8]) -> u32
+pub fn strakobud_drawer_lay(drawer: &mut [u8]) -> u32
     ensures answers { record { refusal = result; drawer = drawer.new } ≡ Spec.lay_on drawer.old }
     ensures kept { result ≡ 0 → is_drawer Spec.width drawer.new ≡ true }
     ensures lists { result ≡ 0 → AllDrawerLists drawer.new }
@@ -16,8 +15,7 @@ pub extern "C" fn strakobud_drawer_lay(drawer: &mut [u8]) -> u32
     drawer::lay(drawer)
 }
 
-#[unsafe(no_mangle)]
-pub extern "C" fn strakobud_drawer_save(drawer: &mut [u8], id: u64, state: &[u8; 156]) -> u32
+pub fn strakobud_drawer_save(drawer: &mut [u8], id: u64, state: &[u8; 156]) -> u32
     ensures answers { record { refusal = result; drawer = drawer.new }
         ≡ Spec.save_on drawer.old id state.now }
     ensures kept { result ≡ 0 → is_drawer Spec.width drawer.new ≡ true }
@@ -26,8 +24,7 @@ pub extern "C" fn strakobud_drawer_save(drawer: &mut [u8], id: u64, state: &[u8;
 }
 
 // What is handed out stands for the state that was saved, and is the very record where the library wrote it.
-#[unsafe(no_mangle)]
-pub extern "C" fn strakobud_drawer_load(drawer: &[u8], id: u64, state: &mut [u8; 156]) -> u32
+pub fn strakobud_drawer_load(drawer: &[u8], id: u64, state: &mut [u8; 156]) -> u32
     ensures answers { record { refusal = result; state = state.new }
         ≡ Spec.load_on drawer.now id state.old }
     ensures stands { TidiedHolds }
@@ -35,8 +32,7 @@ pub extern "C" fn strakobud_drawer_load(drawer: &[u8], id: u64, state: &mut [u8;
     drawer::load(drawer, id, state)
 }
 
-#[unsafe(no_mangle)]
-pub extern "C" fn strakobud_drawer_forget(drawer: &mut [u8], id: u64) -> u32
+pub fn strakobud_drawer_forget(drawer: &mut [u8], id: u64) -> u32
     ensures answers { record { refusal = result; drawer = drawer.new } ≡ Spec.forget_on drawer.old id }
     ensures kept { result ≡ 0 → is_drawer Spec.width drawer.new ≡ true }
 {

@@ -9,8 +9,7 @@ use area::{Settled, State, time_at, word_at};
 use records::{is_damaged, put_state, state_of};
 
 // By table T.
-#[unsafe(no_mangle)]
-pub extern "C" fn strakobud_settle(
+pub fn strakobud_settle(
     state: &mut [u8; 156],
     frame: &[u8],
     run: &[u8; 12],
@@ -23,8 +22,7 @@ pub extern "C" fn strakobud_settle(
     settle_under(state, frame, &none, run, used)
 }
 
-#[unsafe(no_mangle)]
-pub extern "C" fn strakobud_settle_by(
+pub fn strakobud_settle_by(
     state: &mut [u8; 156],
     frame: &[u8],
     table: &[u8; 8200],

@@ -5,8 +5,7 @@ ghost use Rattle.numbers.specs.Table.{Served};
 ghost use Rattle.host.specs.Table as Spec;
 
 // Checks the bytes, and copies them where they load.
-#[unsafe(no_mangle)]
-pub extern "C" fn strakobud_table_load(bytes: &[u8], table: &mut [u8; 8200]) -> u32
+pub fn strakobud_table_load(bytes: &[u8], table: &mut [u8; 8200]) -> u32
     ensures answers { record { refusal = result; table = table.new } ≡ Spec.load_on bytes.now table.old }
     ensures serves { result ≡ 0 → Served table.new }
 {
@@ -20,8 +19,7 @@ pub extern "C" fn strakobud_table_load(bytes: &[u8], table: &mut [u8; 8200]) -> 
 }
 
 // T itself, by its recurrence.
-#[unsafe(no_mangle)]
-pub extern "C" fn strakobud_table_t(table: &mut [u8; 8200])
+pub fn strakobud_table_t(table: &mut [u8; 8200])
     ensures answers { table.new ≡ Spec.table_bytes }
     ensures serves { Spec.ServesAsT table.new }
 {
