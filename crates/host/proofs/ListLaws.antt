@@ -98,8 +98,8 @@ module _ (s frame table run used : List ℕ) where
   abbrev S : State
   S = state_of s
 
-  abbrev up_front_lem : ℕ
-  up_front_lem = settle_refusal S frame (increment_of run) (limit_of run)
+  abbrev up_front : ℕ
+  up_front = settle_refusal S frame (increment_of run) (limit_of run)
 
   -- what the steps answer, and what the run's frames come to
   abbrev told : Settled
@@ -109,36 +109,36 @@ module _ (s frame table run used : List ℕ) where
   ran = settle_from (table_of table) (increment_of run) (limit_of run) S frame
 
   record OneRun (r : RunLeft) : Type 0 where
-    pub answers : r ≡ ran_by up_front_lem told s used
+    pub answers : r ≡ ran_by up_front told s used
     pub stands : state_of r.state ≡ told.state
     pub is_record_lem : IsRecord r.state
 
   -- a run on a record is a run on its state
-  run_is_run : IsRecord s → settle_under (table_of table) s frame run used ≡ ran_by up_front_lem ran s used
+  run_is_run : IsRecord s → settle_under (table_of table) s frame run used ≡ ran_by up_front ran s used
   unfolding settle_under up_front_on ran_under
   run_is_run is = rw (ap (λ (b : List ℕ). is_damaged (word_at b) 0) is ∙ written_is_undamaged S)
 
   told_is : told ≡ area.settle_under (table_of table) S frame (increment_of run) (limit_of run)
   told_is = sym (run_holds (table_of table) S frame (increment_of run) (limit_of run)).by_steps
 
-  told_is_ran : eqb up_front_lem 0 ≡ true → told ≡ ran
+  told_is_ran : eqb up_front 0 ≡ true → told ≡ ran
   unfolding area.settle_under
   told_is_ran h = told_is ∙ rw h
 
-  told_is_given : eqb up_front_lem 0 ≡ false → told ≡ ended_with up_front_lem S
+  told_is_given : eqb up_front 0 ≡ false → told ≡ ended_with up_front S
   unfolding area.settle_under
   told_is_given h = told_is ∙ rw h
 
-  ran_stands : IsRecord s → AreBytes frame → AreTable table → (t : Bool) → eqb up_front_lem 0 ≡ t → OneRun (ran_by up_front_lem ran s used)
+  ran_stands : IsRecord s → AreBytes frame → AreTable table → (t : Bool) → eqb up_front 0 ≡ t → OneRun (ran_by up_front ran s used)
   ran_stands is are lent true h =
-      let whole = whole_of_run S frame (increment_of run) (limit_of run) up_front_lem refl h in
+      let whole = whole_of_run S frame (increment_of run) (limit_of run) up_front refl h in
       let course = goes (table_of table) (increment_of run) (limit_of run) S frame in
       let held = run_is_held table lent (increment_of run) course (read_is_held s) are whole in
       let left =
       written_stands (ltb 0 ran.used) ran.state s (λ _. held_is_read_back _ held)
       (λ none. none_used (table_of table) (increment_of run) course (le_zero (ltb-false 0 ran.used none))) is in
       record {
-        answers = ap (λ (z : Settled). ran_by up_front_lem z s used) (sym (told_is_ran h));
+        answers = ap (λ (z : Settled). ran_by up_front z s used) (sym (told_is_ran h));
         stands = rw h (left.0 ∙ ap (λ (z : Settled). z.state) (sym (told_is_ran h)));
         is_record_lem = rw h left.1;
       }

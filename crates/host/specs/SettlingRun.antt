@@ -24,14 +24,14 @@ pub record RunLeft : Type 0 where
 -- with the refusal up front, or 0: a run that is turned back there leaves both buffers as they were ("leaves lent memory as it was"). After that
 -- `used` holds the frames used, and the record is that of the state after them, also where a frame inside was refused; with none used it stays
 abbrev pub ran_by : ℕ → Settled → List ℕ → List ℕ → RunLeft
-ran_by up_front_lem r state used =
-    cond (eqb up_front_lem 0)
+ran_by up_front r state used =
+    cond (eqb up_front 0)
     (record {
       refusal = r.refusal;
       state = cond (ltb 0 r.used) (record_of r.state) state;
       used = bytes_of (r.used ∷ []);
     })
-    (record { refusal = up_front_lem; state = state; used = used })
+    (record { refusal = up_front; state = state; used = used })
 
 -- a damaged record is 6, in 6's place
 unfoldable pub up_front_on : List ℕ → List ℕ → List ℕ → ℕ
