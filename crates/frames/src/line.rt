@@ -77,6 +77,7 @@ fn wide_line(refusal: u32, offset: [f32; 2], vel: [f32; 2], stuck: [bool; 2]) ->
 }
 
 // The eight hexadecimal digits of a number's bits.
+#[tactic(auto, unfolding(crate::specs::Line::digits_of))]
 fn digits_of(x: f32) -> [u8; 8]
     ensures { result ≡ Spec.digits_of x }
 {
@@ -94,6 +95,7 @@ fn digits_of(x: f32) -> [u8; 8]
 }
 
 // The last hexadecimal digit of w, in lower case.
+#[tactic(auto, unfolding(crate::specs::Line::glyph_of))]
 fn glyph(w: u32) -> u8
     ensures { result ≡ Spec.glyph_of w }
 {
@@ -112,6 +114,7 @@ fn digit(n: u32) -> u8
     (48 + n % 10) as u8
 }
 
+#[tactic(auto, unfolding(crate::specs::Line::flag_of))]
 fn flag(b: bool) -> u8
     ensures { result ≡ Spec.flag_of b }
 {

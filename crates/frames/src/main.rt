@@ -8,8 +8,10 @@ mod line;
 mod table_file;
 
 use area::{Answer, State};
-use libc::{STDERR_FILENO, STDIN_FILENO, STDOUT_FILENO};
 use line::line_of;
+use std::io::{LineWriter, Read, Write};
+use std::rt::Files;
+use std::{env, io};
 use table_file::read_table;
 
 // The state after a frame, the form of the next call, and whether another may follow.
@@ -21,28 +23,34 @@ pub struct Turn {
     pub more: bool,
 }
 
-// Reads a frame, runs it and prints its line; a write that fails ends the run.
-fn run_one(state: State, by: u8, table: &[u8]) -> Turn {
+// Reads a frame, runs it and prints its line.
+fn run_one<R: Read, W: Write>(
+    input: &mut R,
+    out: &mut W,
+    state: State,
+    by: u8,
+    table: &[u8],
+) -> io::Result<Turn> {
     let mut bytes = [0u8; 416];
-    let got = io::read_full(STDIN_FILENO, &mut bytes);
+    let got = streams::read_full(input, &mut bytes)?;
     if got == 0 {
-        return Turn {
+        return Ok(Turn {
             state,
             by,
             more: false,
-        };
+        });
     }
     let answer = area::call_by(state, by, &bytes[..got], table);
     let next = answer.state;
-    let written = print_line(answer);
-    Turn {
+    print_line(out, answer)?;
+    Ok(Turn {
         state: next,
         by: by ^ 1,
-        more: written & (got == 416),
-    }
+        more: got == 416,
+    })
 }
 
-fn print_line(answer: Answer) -> bool {
+fn print_line<W: Write>(out: &mut W, answer: Answer) -> io::Result<()> {
     let state = answer.state;
     let offset = state.offset;
     let vel = state.vel;
@@ -50,56 +58,64 @@ fn print_line(answer: Answer) -> bool {
     let line = line_of(answer.outcome.refusal, offset, vel, stuck);
     let start = line.start;
     let bytes = line.bytes;
-    io::write_all(STDOUT_FILENO, &bytes[start..])
+    out.write_all(&bytes[start..])
 }
 
-// A proved loop has to end, and nothing says that the input does: it counts down from a number that no run uses up.
-fn run_all(table: &[u8]) {
-    let mut turns = u64::MAX;
+// A proved loop has to end, and nothing says that the input does: it has more turns than any run takes.
+fn run_all<R: Read, W: Write>(input: &mut R, out: &mut W, table: &[u8]) -> io::Result<()> {
     let mut turn = Turn {
         state: State::default(),
         by: 0,
         more: true,
     };
-    while turns > 0 && turn.more {
-        turn = run_one(turn.state, turn.by, table);
-        turns -= 1;
+    for _ in 0..u64::MAX {
+        turn = run_one(input, out, turn.state, turn.by, table)?;
+        if !turn.more {
+            break;
+        }
     }
+    Ok(())
 }
 
 // The frames under the table of the file that the argument names.
-fn run_by_file() {
+fn run_by_file<F: Files + Eprint, R: Read, W: Write>(
+    rt: &F,
+    path: &str,
+    input: &mut R,
+    out: &mut W,
+) -> io::Result<()> {
     // A byte more than a table has, so that a longer file shows.
     let mut room = [0u8; 8201];
-    let contents = read_table(&mut room);
+    let contents = read_table(rt, path, &mut room);
     if contents.readable {
         let count = contents.count;
-        run_by(&room[..count]);
+        return run_by(input, out, &room[..count]);
     }
+    Ok(())
 }
 
 // Under a table that loads, the listing; else the number of its refusal alone.
-fn run_by(table: &[u8]) {
+fn run_by<R: Read, W: Write>(input: &mut R, out: &mut W, table: &[u8]) -> io::Result<()> {
     let refusal = numbers::load(table);
     if refusal == 0 {
-        run_all(table);
-        return;
+        return run_all(input, out, table);
     }
-    io::print_decimal(STDOUT_FILENO, refusal as u64);
-    io::write_all(STDOUT_FILENO, b"\n");
+    writeln!(out, "{refusal}")
 }
 
 // More than one argument is a mistake: no listing is better than one under a table that was not meant. Standard error
-// alone tells of it, since a program cannot set its exit status.
-fn main() {
+// alone tells of it, and the exit status is 0 all the same.
+fn main(rt: HostRuntime) -> io::Result<()> {
+    let mut input = rt.reader();
+    let mut out = LineWriter::new(rt.alloc(), io::writer(&rt))?;
     // The program's name among them.
-    let arguments = os::arg_count();
-    if arguments > 2 {
-        io::write_all(STDERR_FILENO, b"usage: frames [TABLE]\n");
-    } else if arguments == 2 {
-        run_by_file();
-    } else {
+    let mut arguments = env::args(&rt)?;
+    if arguments.len() > 2 {
+        return eprintln!(rt; "usage: frames [TABLE]");
+    }
+    match arguments.nth(1) {
+        Some(path) => run_by_file(&rt, path.as_str(), &mut input, &mut out),
         // No bytes stand for T.
-        run_all(b"");
+        None => run_all(&mut input, &mut out, b""),
     }
 }

@@ -1,5 +1,9 @@
 // The table's file, which the program's argument names.
-ghost use Rattle.io.specs.Counts.{IsPrefixLen};
+ghost use Rattle.std.specs.Prelude.{◌≤◌, length, IfOk};
+
+use std::fs::File;
+use std::io;
+use std::rt::Files;
 
 // How many bytes were read, and whether they are the file's.
 #[derive(Clone, Copy)]
@@ -9,43 +13,29 @@ pub struct Contents {
 }
 
 // The file's bytes, as far as there is room. What cannot be read is told on standard error.
-pub fn read_table(room: &mut [u8]) -> Contents
-    ensures { IsPrefixLen result.count room.new }
+pub fn read_table<R: Files + Eprint>(rt: &R, path: &str, room: &mut [u8]) -> Contents
+    ensures { result.count ≤ length room.new }
 {
-    let mut path = io::buffer();
-    let length = os::arg(1, &mut path);
-    if os::errno() != 0 {
-        os::fail(b"TABLE");
-        return Contents {
-            readable: false,
-            count: 0,
-        };
+    match read_file(rt, path, room) {
+        Ok(count) => Contents {
+            readable: true,
+            count,
+        },
+        Err(error) => {
+            // A standard error that is closed changes nothing.
+            let _ = rt.eprintln(format_args!("{path}: {error}"));
+            Contents {
+                readable: false,
+                count: 0,
+            }
+        }
     }
-    read_file(&path[..length], room)
 }
 
-fn read_file(path: &[u8], room: &mut [u8]) -> Contents
-    ensures { IsPrefixLen result.count room.new }
+// How many bytes were read: fewer than there is room for only where the file ends.
+fn read_file<F: Files>(files: &F, path: &str, room: &mut [u8]) -> io::Result<usize>
+    ensures { IfOk result (λ n. n ≤ length room.new) }
 {
-    let fd = os::open_read(path);
-    if fd < 0 {
-        os::fail(path);
-        return Contents {
-            readable: false,
-            count: 0,
-        };
-    }
-    let count = io::read_full(fd, room);
-    let readable = count == room.len() || is_at_end(fd);
-    if !readable {
-        os::fail(path);
-    }
-    libc::close(fd);
-    Contents { readable, count }
-}
-
-// A short count is the end of the file or a read that failed, as of a directory; one read more tells which.
-fn is_at_end(fd: i32) -> bool {
-    let mut next = [0u8; 1];
-    libc::read(fd, &mut next) == 0
+    let mut file = File::open(files, path)?;
+    streams::read_full(&mut file, room)
 }

@@ -8,10 +8,11 @@ mod print_outcome;
 mod print_state;
 
 use area::{Answer, State};
-use libc::STDIN_FILENO;
 use print::{print_end, print_refusal};
 use print_outcome::print_outcome_words;
 use print_state::print_state_words;
+use std::io;
+use std::io::{LineWriter, Read, Write};
 
 // The state after a frame, the form of the next call, and whether another may follow.
 #[derive(Clone, Copy)]
@@ -30,44 +31,52 @@ fn call(state: State, by: u8, bytes: &[u8]) -> Answer {
     area::call_by(state, by, bytes, b"")
 }
 
-fn run_one(state: State, by: u8) -> Turn {
+fn run_one<R: Read, W: Write>(
+    input: &mut R,
+    out: &mut W,
+    state: State,
+    by: u8,
+) -> io::Result<Turn> {
     let mut bytes = [0u8; 416];
-    let got = io::read_full(STDIN_FILENO, &mut bytes);
+    let got = streams::read_full(input, &mut bytes)?;
     if got == 0 {
-        return Turn {
+        return Ok(Turn {
             state,
             by,
             more: false,
-        };
+        });
     }
     let answer = call(state, by, &bytes[..got]);
     let next = answer.state;
     let outcome = answer.outcome;
-    print_refusal(outcome.refusal);
-    print_state_words(next);
-    print_outcome_words(outcome);
-    let written = print_end();
-    Turn {
+    print_refusal(out, outcome.refusal)?;
+    print_state_words(out, next)?;
+    print_outcome_words(out, outcome)?;
+    print_end(out)?;
+    Ok(Turn {
         state: next,
         by: by ^ 1,
-        more: written & (got == 416),
-    }
+        more: got == 416,
+    })
 }
 
-// A proved loop has to end, and nothing says that the input does: it counts down from a number that no run uses up.
-fn run_all() {
-    let mut turns = u64::MAX;
+// A proved loop has to end, and nothing says that the input does: it has more turns than any run takes.
+fn run_all<R: Read, W: Write>(input: &mut R, out: &mut W) -> io::Result<()> {
     let mut turn = Turn {
         state: State::default(),
         by: 0,
         more: true,
     };
-    while turns > 0 && turn.more {
-        turn = run_one(turn.state, turn.by);
-        turns -= 1;
+    for _ in 0..u64::MAX {
+        turn = run_one(input, out, turn.state, turn.by)?;
+        if !turn.more {
+            break;
+        }
     }
+    Ok(())
 }
 
-fn main() {
-    run_all();
+fn main(rt: HostRuntime) -> io::Result<()> {
+    let mut out = LineWriter::new(rt.alloc(), io::writer(&rt))?;
+    run_all(&mut rt.reader(), &mut out)
 }

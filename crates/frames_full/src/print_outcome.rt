@@ -2,28 +2,30 @@
 use crate::print::{print_flag, print_maybe_rect, print_pair, print_pos2};
 use area::{HandleRect, Outcome};
 use numbers::Rect;
+use std::io;
+use std::io::Write;
 
-pub fn print_outcome_words(outcome: Outcome) {
+pub fn print_outcome_words<W: Write>(out: &mut W, outcome: Outcome) -> io::Result<()> {
     let content_size = outcome.content_size;
     let handles = outcome.handles;
     let wheel_delta_left = outcome.wheel_delta_left;
     let scroll_delta_left = outcome.scroll_delta_left;
-    print_pair(content_size);
-    print_rect(outcome.inner_rect);
-    print_rect(outcome.viewport);
-    print_handle(handles[0]);
-    print_handle(handles[1]);
-    print_pair(wheel_delta_left);
-    print_pair(scroll_delta_left);
-    print_flag(outcome.repaint);
+    print_pair(out, content_size)?;
+    print_rect(out, outcome.inner_rect)?;
+    print_rect(out, outcome.viewport)?;
+    print_handle(out, handles[0])?;
+    print_handle(out, handles[1])?;
+    print_pair(out, wheel_delta_left)?;
+    print_pair(out, scroll_delta_left)?;
+    print_flag(out, outcome.repaint)
 }
 
-fn print_rect(rect: Rect) {
-    print_pos2(rect.min);
-    print_pos2(rect.max);
+fn print_rect<W: Write>(out: &mut W, rect: Rect) -> io::Result<()> {
+    print_pos2(out, rect.min)?;
+    print_pos2(out, rect.max)
 }
 
-fn print_handle(handle: HandleRect) {
+fn print_handle<W: Write>(out: &mut W, handle: HandleRect) -> io::Result<()> {
     let rect = handle.rect;
-    print_maybe_rect(rect);
+    print_maybe_rect(out, rect)
 }

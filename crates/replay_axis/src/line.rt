@@ -1,38 +1,35 @@
 // A line of the listing: operands as words, after "=" the refusal, then numbers as words and flags as digits.
-use libc::STDOUT_FILENO;
+use std::io;
+use std::io::Write;
 
-// Answers whether all was written.
-pub fn print(text: &[u8]) -> bool {
-    io::write_all(STDOUT_FILENO, text)
+pub fn print<W: Write>(out: &mut W, text: &str) -> io::Result<()> {
+    out.write_all(text.as_bytes())
 }
 
 // The words of a record from word 1 on.
-pub fn print_operands(record: &[u8], count: u32) {
-    let mut i: u32 = 0;
-    while i < count {
-        i += 1;
-        print_hex(words::word(record, i));
+pub fn print_operands<W: Write>(out: &mut W, record: &[u8], count: u32) -> io::Result<()> {
+    for i in 0..count {
+        print_hex(out, words::word(record, i + 1))?;
     }
+    Ok(())
 }
 
-pub fn print_refusal(refusal: u32) {
-    print(b" = ");
-    io::print_decimal(STDOUT_FILENO, refusal as u64);
+pub fn print_refusal<W: Write>(out: &mut W, refusal: u32) -> io::Result<()> {
+    write!(out, " = {refusal}")
 }
 
-pub fn print_number(x: f32) {
-    print_hex(numbers::bits_of_f32(x));
+pub fn print_number<W: Write>(out: &mut W, x: f32) -> io::Result<()> {
+    print_hex(out, numbers::bits_of_f32(x))
 }
 
-pub fn print_flag(flag: bool) {
+pub fn print_flag<W: Write>(out: &mut W, flag: bool) -> io::Result<()> {
     if flag {
-        print(b" 1");
+        print(out, " 1")
     } else {
-        print(b" 0");
+        print(out, " 0")
     }
 }
 
-fn print_hex(word: u32) {
-    print(b" ");
-    io::print_hex(STDOUT_FILENO, word as u64, 8);
+fn print_hex<W: Write>(out: &mut W, word: u32) -> io::Result<()> {
+    write!(out, " {word:08x}")
 }

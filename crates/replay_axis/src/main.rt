@@ -8,36 +8,38 @@
 mod line;
 mod operands;
 
-use libc::STDIN_FILENO;
 use line::{print, print_flag, print_number, print_operands, print_refusal};
 use operands::{axis_of, flag_at, number_at, scroll_of};
+use std::io;
+use std::io::{LineWriter, Read, Write};
 
 // Runs one call, and says whether there was one.
-fn replay_one() -> bool {
+fn replay_one<R: Read, W: Write>(input: &mut R, out: &mut W) -> io::Result<bool> {
     let mut record = [0u8; 56];
-    if io::read_full(STDIN_FILENO, &mut record) < 56 {
-        return false;
+    if streams::read_full(input, &mut record)? < 56 {
+        return Ok(false);
     }
     let kind = words::word(&record, 0);
     match kind {
-        1 => replay_drag(&record),
-        2 => replay_step(&record),
-        _ => replay_wheel(&record),
+        1 => replay_drag(out, &record)?,
+        2 => replay_step(out, &record)?,
+        _ => replay_wheel(out, &record)?,
     }
-    print(b"\n")
+    print(out, "\n")?;
+    Ok(true)
 }
 
-fn replay_drag(record: &[u8]) {
-    print(b"drag");
-    print_operands(record, 8);
+fn replay_drag<W: Write>(out: &mut W, record: &[u8]) -> io::Result<()> {
+    print(out, "drag")?;
+    print_operands(out, record, 8)?;
     let answer = axis::call::drag(axis_of(record), number_at(record, 7), number_at(record, 8));
-    print_refusal(answer.refusal);
-    print_number(answer.offset);
+    print_refusal(out, answer.refusal)?;
+    print_number(out, answer.offset)
 }
 
-fn replay_step(record: &[u8]) {
-    print(b"step");
-    print_operands(record, 10);
+fn replay_step<W: Write>(out: &mut W, record: &[u8]) -> io::Result<()> {
+    print(out, "step")?;
+    print_operands(out, record, 10)?;
     let answer = axis::call::step(
         axis_of(record),
         number_at(record, 7),
@@ -45,15 +47,15 @@ fn replay_step(record: &[u8]) {
         number_at(record, 9),
         flag_at(record, 10),
     );
-    print_refusal(answer.refusal);
-    print_number(answer.stepped.offset);
-    print_number(answer.stepped.vel);
-    print_flag(answer.stepped.moving);
+    print_refusal(out, answer.refusal)?;
+    print_number(out, answer.stepped.offset)?;
+    print_number(out, answer.stepped.vel)?;
+    print_flag(out, answer.stepped.moving)
 }
 
-fn replay_wheel(record: &[u8]) {
-    print(b"wheel");
-    print_operands(record, 13);
+fn replay_wheel<W: Write>(out: &mut W, record: &[u8]) -> io::Result<()> {
+    print(out, "wheel")?;
+    print_operands(out, record, 13)?;
     let answer = axis::call::wheel(
         axis_of(record),
         number_at(record, 7),
@@ -61,22 +63,24 @@ fn replay_wheel(record: &[u8]) {
         scroll_of(record),
         flag_at(record, 13),
     );
-    print_refusal(answer.refusal);
-    print_number(answer.wheeled.offset);
-    print_number(answer.wheeled.vel);
-    print_flag(answer.wheeled.bounced_this_momentum);
-    print_flag(answer.wheeled.consumed);
+    print_refusal(out, answer.refusal)?;
+    print_number(out, answer.wheeled.offset)?;
+    print_number(out, answer.wheeled.vel)?;
+    print_flag(out, answer.wheeled.bounced_this_momentum)?;
+    print_flag(out, answer.wheeled.consumed)
 }
 
-// A proved loop has to end, and nothing says that the input does: it counts down from a number that
-// no run uses up.
-fn replay_all() {
-    let mut turns = u64::MAX;
-    while turns > 0 && replay_one() {
-        turns -= 1;
+// A proved loop has to end, and nothing says that the input does: it has more turns than any run takes.
+fn replay_all<R: Read, W: Write>(input: &mut R, out: &mut W) -> io::Result<()> {
+    for _ in 0..u64::MAX {
+        if !replay_one(input, out)? {
+            break;
+        }
     }
+    Ok(())
 }
 
-fn main() {
-    replay_all();
+fn main(rt: HostRuntime) -> io::Result<()> {
+    let mut out = LineWriter::new(rt.alloc(), io::writer(&rt))?;
+    replay_all(&mut rt.reader(), &mut out)
 }

@@ -6,45 +6,46 @@
 
 mod stored_state;
 
-use libc::{STDIN_FILENO, STDOUT_FILENO};
+use std::io;
+use std::io::{LineWriter, Read, Write};
 use stored_state::state_of;
 
 // Runs one record, and says whether there was one.
-fn replay_one() -> bool {
+fn replay_one<R: Read, W: Write>(input: &mut R, out: &mut W) -> io::Result<bool> {
     let mut record = [0u8; 584];
-    if io::read_full(STDIN_FILENO, &mut record) < 584 {
-        return false;
+    if streams::read_full(input, &mut record)? < 584 {
+        return Ok(false);
     }
-    print_answers(&record)
+    print_answers(out, &record)?;
+    Ok(true)
 }
 
 // A length past the record is a frame of the wrong length too.
-fn print_answers(record: &[u8]) -> bool {
+fn print_answers<W: Write>(out: &mut W, record: &[u8]) -> io::Result<()> {
     let length = words::word(record, 0) as usize;
     let end = 4 + length;
     if record.len() < end {
-        return print(1, 0);
+        return print(out, 1, 0);
     }
     let refusal = area::refusal_before_7(&record[4..end], state_of(record));
-    print(refusal, area::bad_word(&record[4..end]))
+    print(out, refusal, area::bad_word(&record[4..end]))
 }
 
-fn print(refusal: u32, bad_word: u32) -> bool {
-    io::print_decimal(STDOUT_FILENO, refusal as u64);
-    io::write_all(STDOUT_FILENO, b" ");
-    io::print_decimal(STDOUT_FILENO, bad_word as u64);
-    io::write_all(STDOUT_FILENO, b"\n")
+fn print<W: Write>(out: &mut W, refusal: u32, bad_word: u32) -> io::Result<()> {
+    writeln!(out, "{refusal} {bad_word}")
 }
 
-// A proved loop has to end, and nothing says that the input does: it counts down from a number that
-// no run uses up.
-fn replay_all() {
-    let mut turns = u64::MAX;
-    while turns > 0 && replay_one() {
-        turns -= 1;
+// A proved loop has to end, and nothing says that the input does: it has more turns than any run takes.
+fn replay_all<R: Read, W: Write>(input: &mut R, out: &mut W) -> io::Result<()> {
+    for _ in 0..u64::MAX {
+        if !replay_one(input, out)? {
+            break;
+        }
     }
+    Ok(())
 }
 
-fn main() {
-    replay_all();
+fn main(rt: HostRuntime) -> io::Result<()> {
+    let mut out = LineWriter::new(rt.alloc(), io::writer(&rt))?;
+    replay_all(&mut rt.reader(), &mut out)
 }

@@ -1,8 +1,10 @@
 // What follows a call's word.
-use libc::STDIN_FILENO;
+use std::io;
+use std::io::Read;
 
 // Answers whether the input was long enough.
-pub fn fill(buffer: &mut [u8]) -> bool {
+pub fn fill<R: Read>(input: &mut R, buffer: &mut [u8]) -> io::Result<bool> {
     let n = buffer.len();
-    io::read_full(STDIN_FILENO, buffer) == n
+    let got = streams::read_full(input, buffer)?;
+    Ok(got == n)
 }

@@ -14,50 +14,63 @@ mod mark;
 use calls::{replay_forget, replay_lay, replay_load, replay_save};
 use given::{replay_given, replay_put};
 use input::fill;
+use std::io;
+use std::io::{LineWriter, Read, Write};
 
 // Answers whether another call may follow.
-fn replay_one(room: &mut [u8], used: &mut usize) -> bool {
+fn replay_one<R: Read, W: Write>(
+    input: &mut R,
+    out: &mut W,
+    room: &mut [u8],
+    used: &mut usize,
+) -> io::Result<bool> {
     let mut word = [0u8; 4];
-    if !fill(&mut word) {
-        return false;
+    if !fill(input, &mut word)? {
+        return Ok(false);
     }
     let kind = words::word(&word, 0);
     if kind == 1 {
-        return replay_given(room, used);
+        return replay_given(input, out, room, used);
     }
     // What is used lies in the room; the test is for the proof.
     let n = *used;
     if room.len() < n {
-        return false;
+        return Ok(false);
     }
-    replay_on(kind, &mut room[0..n])
+    replay_on(input, out, kind, &mut room[0..n])
 }
 
 // A call that leaves the buffer's length as it was.
-fn replay_on(kind: u32, buffer: &mut [u8]) -> bool {
+fn replay_on<R: Read, W: Write>(
+    input: &mut R,
+    out: &mut W,
+    kind: u32,
+    buffer: &mut [u8],
+) -> io::Result<bool> {
     match kind {
-        2 => replay_put(buffer),
-        3 => replay_lay(buffer),
-        4 => replay_save(buffer),
-        5 => replay_load(buffer),
-        6 => replay_forget(buffer),
-        _ => false,
+        2 => replay_put(input, out, buffer),
+        3 => replay_lay(out, buffer),
+        4 => replay_save(input, out, buffer),
+        5 => replay_load(input, out, buffer),
+        6 => replay_forget(input, out, buffer),
+        _ => Ok(false),
     }
 }
 
-// A proved loop has to end, and nothing says that the input does: it counts down from a number that no run uses up.
-fn replay_all(room: &mut [u8]) {
+// A proved loop has to end, and nothing says that the input does: it has more turns than any run takes.
+fn replay_all<R: Read, W: Write>(input: &mut R, out: &mut W, room: &mut [u8]) -> io::Result<()> {
     let mut used: usize = 0;
-    let mut turns = u64::MAX;
-    let mut more = true;
-    while turns > 0 && more {
-        more = replay_one(room, &mut used);
-        turns -= 1;
+    for _ in 0..u64::MAX {
+        if !replay_one(input, out, room, &mut used)? {
+            break;
+        }
     }
+    Ok(())
 }
 
-fn main() {
+fn main(rt: HostRuntime) -> io::Result<()> {
     // 25 records.
     let mut room = [0u8; 4200];
-    replay_all(&mut room);
+    let mut out = LineWriter::new(rt.alloc(), io::writer(&rt))?;
+    replay_all(&mut rt.reader(), &mut out, &mut room)
 }

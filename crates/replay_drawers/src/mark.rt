@@ -4,10 +4,8 @@ ghost use Rattle.std.specs.Prelude.{◌<◌};
 // Below 2^32 at each turn, so that the product fits in 64 bits.
 pub fn mark_of(bytes: &[u8]) -> u64 {
     let mut mark: u64 = 2166136261;
-    let mut i: usize = 0;
-    while i < bytes.len() {
-        mark = (mark * 16777619 + wide(bytes[i])) % 4294967296;
-        i += 1;
+    for b in bytes {
+        mark = (mark * 16777619 + wide(*b)) % 4294967296;
     }
     mark
 }

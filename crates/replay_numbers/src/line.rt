@@ -1,67 +1,67 @@
 // A line of the listing: the call's name, its operands, and after "=" its answer.
 use crate::answer::Answer;
-use libc::STDOUT_FILENO;
+use std::io;
+use std::io::Write;
 
-// Answers whether all was written.
-pub fn print_call(call: u32, operands: [u32; 8], answer: Answer) -> bool {
+pub fn print_call<W: Write>(
+    out: &mut W,
+    call: u32,
+    operands: [u32; 8],
+    answer: Answer,
+) -> io::Result<()> {
     let words = answer.words;
-    print_name(call);
-    print_words(&operands, answer.operands);
-    print(b" =");
-    print_words(&words, answer.count);
-    print(b"\n")
+    print_name(out, call)?;
+    print_words(out, &operands, answer.operands)?;
+    print(out, " =")?;
+    print_words(out, &words, answer.count)?;
+    print(out, "\n")
 }
 
-fn print(text: &[u8]) -> bool {
-    io::write_all(STDOUT_FILENO, text)
+fn print<W: Write>(out: &mut W, text: &str) -> io::Result<()> {
+    out.write_all(text.as_bytes())
 }
 
-fn print_words(words: &[u32], count: usize) {
-    let mut i: usize = 0;
-    while i < words.len() {
-        if i == count {
-            return;
-        }
-        print_word(words[i]);
-        i += 1;
+fn print_words<W: Write>(out: &mut W, words: &[u32], count: usize) -> io::Result<()> {
+    for word in words.iter().take(count) {
+        print_word(out, *word)?;
+    }
+    Ok(())
+}
+
+fn print_word<W: Write>(out: &mut W, word: u32) -> io::Result<()> {
+    write!(out, " {word:08x}")
+}
+
+fn print_name<W: Write>(out: &mut W, call: u32) -> io::Result<()> {
+    match call {
+        1 => print(out, "abs"),
+        2 => print(out, "copysign"),
+        3 => print(out, "signum"),
+        4 => print(out, "max"),
+        5 => print(out, "min"),
+        6 => print(out, "powi2"),
+        7 => print(out, "flag_as_number"),
+        8 => print(out, "clamp"),
+        9 => print(out, "range_contains"),
+        10 => print(out, "ceil"),
+        11 => print(out, "narrow"),
+        12 => print(out, "widen"),
+        _ => print_later_name(out, call),
     }
 }
 
-fn print_word(word: u32) -> bool {
-    print(b" ");
-    io::print_hex(STDOUT_FILENO, word as u64, 8)
-}
-
-fn print_name(call: u32) -> bool {
+fn print_later_name<W: Write>(out: &mut W, call: u32) -> io::Result<()> {
     match call {
-        1 => print(b"abs"),
-        2 => print(b"copysign"),
-        3 => print(b"signum"),
-        4 => print(b"max"),
-        5 => print(b"min"),
-        6 => print(b"powi2"),
-        7 => print(b"flag_as_number"),
-        8 => print(b"clamp"),
-        9 => print(b"range_contains"),
-        10 => print(b"ceil"),
-        11 => print(b"narrow"),
-        12 => print(b"widen"),
-        _ => print_later_name(call),
-    }
-}
-
-fn print_later_name(call: u32) -> bool {
-    match call {
-        13 => print(b"lerp"),
-        14 => print(b"remap"),
-        15 => print(b"remap_clamp"),
-        16 => print(b"ease_in_ease_out"),
-        17 => print(b"interpolation_factor"),
-        18 => print(b"rect_from_min_size"),
-        19 => print(b"rect_size"),
-        20 => print(b"rect_intersect"),
-        21 => print(b"rect_contains"),
-        22 => print(b"align_factor"),
-        _ => print(b"exp"),
+        13 => print(out, "lerp"),
+        14 => print(out, "remap"),
+        15 => print(out, "remap_clamp"),
+        16 => print(out, "ease_in_ease_out"),
+        17 => print(out, "interpolation_factor"),
+        18 => print(out, "rect_from_min_size"),
+        19 => print(out, "rect_size"),
+        20 => print(out, "rect_intersect"),
+        21 => print(out, "rect_contains"),
+        22 => print(out, "align_factor"),
+        _ => print(out, "exp"),
     }
 }

@@ -7,18 +7,20 @@ mod answer;
 mod line;
 
 use answer::answer_of;
-use libc::STDIN_FILENO;
 use line::print_call;
+use std::io;
+use std::io::{LineWriter, Read, Write};
 
 // Runs one call, and says whether there was one.
-fn replay_one() -> bool {
+fn replay_one<R: Read, W: Write>(input: &mut R, out: &mut W) -> io::Result<bool> {
     let mut record = [0u8; 36];
-    if io::read_full(STDIN_FILENO, &mut record) < 36 {
-        return false;
+    if streams::read_full(input, &mut record)? < 36 {
+        return Ok(false);
     }
     let call = words::word(&record, 0);
     let operands = operands_of(&record);
-    print_call(call, operands, answer_of(call, operands))
+    print_call(out, call, operands, answer_of(call, operands))?;
+    Ok(true)
 }
 
 fn operands_of(record: &[u8]) -> [u32; 8] {
@@ -34,15 +36,17 @@ fn operands_of(record: &[u8]) -> [u32; 8] {
     ]
 }
 
-// A proved loop has to end, and nothing says that the input does: it counts down from a number that
-// no run uses up.
-fn replay_all() {
-    let mut turns = u64::MAX;
-    while turns > 0 && replay_one() {
-        turns -= 1;
+// A proved loop has to end, and nothing says that the input does: it has more turns than any run takes.
+fn replay_all<R: Read, W: Write>(input: &mut R, out: &mut W) -> io::Result<()> {
+    for _ in 0..u64::MAX {
+        if !replay_one(input, out)? {
+            break;
+        }
     }
+    Ok(())
 }
 
-fn main() {
-    replay_all();
+fn main(rt: HostRuntime) -> io::Result<()> {
+    let mut out = LineWriter::new(rt.alloc(), io::writer(&rt))?;
+    replay_all(&mut rt.reader(), &mut out)
 }

@@ -3,46 +3,60 @@
 // after the call.
 use crate::input::fill;
 use crate::line::{print, print_decimal, print_words};
+use std::io;
+use std::io::{Read, Write};
 
-// Each answers whether its input was whole and its line was written.
-pub fn replay_fresh(kept: &mut [u8; 156]) -> bool {
+// Each answers whether its input was whole.
+pub fn replay_fresh<W: Write>(out: &mut W, kept: &mut [u8; 156]) -> io::Result<bool> {
     host::strakobud_fresh(kept);
-    print(b"fresh");
-    print_record(kept)
+    print(out, "fresh")?;
+    print_record(out, kept)?;
+    Ok(true)
 }
 
-pub fn replay_given(kept: &mut [u8; 156]) -> bool {
-    if !fill(kept) {
-        return false;
+pub fn replay_given<R: Read, W: Write>(
+    input: &mut R,
+    out: &mut W,
+    kept: &mut [u8; 156],
+) -> io::Result<bool> {
+    if !fill(input, kept)? {
+        return Ok(false);
     }
-    print(b"given");
-    print_record(kept)
+    print(out, "given")?;
+    print_record(out, kept)?;
+    Ok(true)
 }
 
-pub fn replay_frame(kept: &mut [u8; 156]) -> bool {
+pub fn replay_frame<R: Read, W: Write>(
+    input: &mut R,
+    out: &mut W,
+    kept: &mut [u8; 156],
+) -> io::Result<bool> {
     let mut frame = [0u8; 428];
-    if !fill(&mut frame) {
-        return false;
+    if !fill(input, &mut frame)? {
+        return Ok(false);
     }
     // Behind the word of its length.
     let end = 4 + words::word(&frame, 0) as usize;
     if 428 < end {
-        return false;
+        return Ok(false);
     }
-    let mut out = [0u8; 100];
-    let refusal = host::strakobud_frame(kept, &frame[4..end], &mut out);
-    print(b"frame");
-    print_decimal(refusal as u64);
-    print_record(kept)
+    let mut outputs = [0u8; 100];
+    let refusal = host::strakobud_frame(kept, &frame[4..end], &mut outputs);
+    print(out, "frame")?;
+    print_decimal(out, refusal as u64)?;
+    print_record(out, kept)?;
+    Ok(true)
 }
 
-pub fn replay_reset(kept: &mut [u8; 156]) -> bool {
+pub fn replay_reset<W: Write>(out: &mut W, kept: &mut [u8; 156]) -> io::Result<bool> {
     host::strakobud_reset(kept);
-    print(b"reset");
-    print_record(kept)
+    print(out, "reset")?;
+    print_record(out, kept)?;
+    Ok(true)
 }
 
-fn print_record(kept: &[u8; 156]) -> bool {
-    print_words(kept, 39);
-    print(b"\n")
+fn print_record<W: Write>(out: &mut W, kept: &[u8; 156]) -> io::Result<()> {
+    print_words(out, kept, 39)?;
+    print(out, "\n")
 }

@@ -13,42 +13,56 @@ mod load;
 mod run;
 
 use kept::{replay_frame, replay_fresh, replay_given, replay_reset};
-use libc::STDIN_FILENO;
 use load::replay_load;
 use run::replay_run;
+use std::io;
+use std::io::{LineWriter, Read, Write};
 
 // Answers whether another call may follow.
-fn replay_one(room: &mut [u8], table: &mut [u8; 8200], kept: &mut [u8; 156]) -> bool {
+fn replay_one<R: Read, W: Write>(
+    input: &mut R,
+    out: &mut W,
+    room: &mut [u8],
+    table: &mut [u8; 8200],
+    kept: &mut [u8; 156],
+) -> io::Result<bool> {
     let mut word = [0u8; 4];
-    if io::read_full(STDIN_FILENO, &mut word) < 4 {
-        return false;
+    if streams::read_full(input, &mut word)? < 4 {
+        return Ok(false);
     }
     match words::word(&word, 0) {
-        1 => replay_load(room, table),
-        2 => replay_run(table, false),
-        3 => replay_run(table, true),
-        4 => replay_fresh(kept),
-        5 => replay_frame(kept),
-        6 => replay_reset(kept),
-        7 => replay_given(kept),
-        _ => false,
+        1 => replay_load(input, out, room, table),
+        2 => replay_run(input, out, table, false),
+        3 => replay_run(input, out, table, true),
+        4 => replay_fresh(out, kept),
+        5 => replay_frame(input, out, kept),
+        6 => replay_reset(out, kept),
+        7 => replay_given(input, out, kept),
+        _ => Ok(false),
     }
 }
 
-// A proved loop has to end, and nothing says that the input does: it counts down from a number that no run uses up.
-fn replay_all(room: &mut [u8], table: &mut [u8; 8200], kept: &mut [u8; 156]) {
-    let mut turns = u64::MAX;
-    let mut more = true;
-    while turns > 0 && more {
-        more = replay_one(room, table, kept);
-        turns -= 1;
+// A proved loop has to end, and nothing says that the input does: it has more turns than any run takes.
+fn replay_all<R: Read, W: Write>(
+    input: &mut R,
+    out: &mut W,
+    room: &mut [u8],
+    table: &mut [u8; 8200],
+    kept: &mut [u8; 156],
+) -> io::Result<()> {
+    for _ in 0..u64::MAX {
+        if !replay_one(input, out, room, table, kept)? {
+            break;
+        }
     }
+    Ok(())
 }
 
-fn main() {
+fn main(rt: HostRuntime) -> io::Result<()> {
     // Eight bytes more than a table has, so that longer ones are tried too.
     let mut room = [0u8; 8208];
     let mut table = [0u8; 8200];
     let mut kept = [0u8; 156];
-    replay_all(&mut room, &mut table, &mut kept);
+    let mut out = LineWriter::new(rt.alloc(), io::writer(&rt))?;
+    replay_all(&mut rt.reader(), &mut out, &mut room, &mut table, &mut kept)
 }

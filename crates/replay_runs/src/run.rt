@@ -3,21 +3,31 @@
 // and the words of that buffer and of the record after the call.
 use crate::input::fill;
 use crate::line::{print, print_decimal, print_words};
+use std::io;
+use std::io::{Read, Write};
 
-// Answers whether the record was whole and its line was written.
-pub fn replay_run(table: &[u8; 8200], is_by_table: bool) -> bool {
+// Answers whether the record was whole.
+pub fn replay_run<R: Read, W: Write>(
+    input: &mut R,
+    out: &mut W,
+    table: &[u8; 8200],
+    is_by_table: bool,
+) -> io::Result<bool> {
     let mut frame = [0u8; 428];
     let mut state = [0u8; 156];
     let mut run = [0u8; 12];
     let mut used = [0u8; 4];
-    let is_whole = fill(&mut frame) && fill(&mut state) && fill(&mut run) && fill(&mut used);
+    let is_whole = fill(input, &mut frame)?
+        && fill(input, &mut state)?
+        && fill(input, &mut run)?
+        && fill(input, &mut used)?;
     if !is_whole {
-        return false;
+        return Ok(false);
     }
     // Behind the word of its length.
     let end = 4 + words::word(&frame, 0) as usize;
     if 428 < end {
-        return false;
+        return Ok(false);
     }
     let refusal = settle(
         &mut state,
@@ -27,7 +37,8 @@ pub fn replay_run(table: &[u8; 8200], is_by_table: bool) -> bool {
         &run,
         &mut used,
     );
-    print_line(refusal, &used, &state)
+    print_line(out, refusal, &used, &state)?;
+    Ok(true)
 }
 
 // Under the table or by T.
@@ -45,10 +56,15 @@ fn settle(
     host::strakobud_settle(state, frame, run, used)
 }
 
-fn print_line(refusal: u32, used: &[u8; 4], state: &[u8; 156]) -> bool {
-    print(b"run");
-    print_decimal(refusal as u64);
-    print_words(used, 1);
-    print_words(state, 39);
-    print(b"\n")
+fn print_line<W: Write>(
+    out: &mut W,
+    refusal: u32,
+    used: &[u8; 4],
+    state: &[u8; 156],
+) -> io::Result<()> {
+    print(out, "run")?;
+    print_decimal(out, refusal as u64)?;
+    print_words(out, used, 1)?;
+    print_words(out, state, 39)?;
+    print(out, "\n")
 }

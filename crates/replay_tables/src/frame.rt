@@ -4,43 +4,51 @@
 use crate::line::{print, print_decimal, print_flag, print_number};
 use crate::turn::Turn;
 use area::State;
-use libc::STDIN_FILENO;
+use std::io;
+use std::io::{Read, Write};
 
-pub fn replay_frame(turn: Turn, table: &[u8]) -> Turn {
+pub fn replay_frame<R: Read, W: Write>(
+    input: &mut R,
+    out: &mut W,
+    turn: Turn,
+    table: &[u8],
+) -> io::Result<Turn> {
     let mut bytes = [0u8; 416];
-    if io::read_full(STDIN_FILENO, &mut bytes) < 416 {
-        return turn.after(false);
+    if streams::read_full(input, &mut bytes)? < 416 {
+        return Ok(turn.after(false));
     }
     let answer = area::call_by(turn.state, turn.by, &bytes, table);
     let next = answer.state;
-    print(b"frame");
-    print_decimal(answer.outcome.refusal as u64);
-    Turn {
+    print(out, "frame")?;
+    print_decimal(out, answer.outcome.refusal as u64)?;
+    print_state(out, next)?;
+    Ok(Turn {
         state: next,
         by: turn.by ^ 1,
         is_loaded: turn.is_loaded,
-        more: print_state(next),
-    }
+        more: true,
+    })
 }
 
-pub fn replay_reset(turn: Turn) -> Turn {
+pub fn replay_reset<W: Write>(out: &mut W, turn: Turn) -> io::Result<Turn> {
     let next = area::reset(turn.state);
-    print(b"reset");
-    Turn {
+    print(out, "reset")?;
+    print_state(out, next)?;
+    Ok(Turn {
         state: next,
         by: turn.by,
         is_loaded: turn.is_loaded,
-        more: print_state(next),
-    }
+        more: true,
+    })
 }
 
-fn print_state(state: State) -> bool {
-    print_number(state.offset[0]);
-    print_number(state.offset[1]);
-    print_number(state.vel[0]);
-    print_number(state.vel[1]);
-    print(b" ");
-    print_flag(state.scroll_stuck_to_end[0]);
-    print_flag(state.scroll_stuck_to_end[1]);
-    print(b"\n")
+fn print_state<W: Write>(out: &mut W, state: State) -> io::Result<()> {
+    print_number(out, state.offset[0])?;
+    print_number(out, state.offset[1])?;
+    print_number(out, state.vel[0])?;
+    print_number(out, state.vel[1])?;
+    print(out, " ")?;
+    print_flag(out, state.scroll_stuck_to_end[0])?;
+    print_flag(out, state.scroll_stuck_to_end[1])?;
+    print(out, "\n")
 }

@@ -1,37 +1,34 @@
 // The parts of a line: numbers as the digits of their bits, counts and refusals in decimal, flags as a digit.
-use libc::STDOUT_FILENO;
+use std::io;
+use std::io::Write;
 
-// Answers whether all was written.
-pub fn print(text: &[u8]) -> bool {
-    io::write_all(STDOUT_FILENO, text)
+pub fn print<W: Write>(out: &mut W, text: &str) -> io::Result<()> {
+    out.write_all(text.as_bytes())
 }
 
-pub fn print_decimal(n: u64) {
-    print(b" ");
-    io::print_decimal(STDOUT_FILENO, n);
+pub fn print_decimal<W: Write>(out: &mut W, n: u64) -> io::Result<()> {
+    write!(out, " {n}")
 }
 
-pub fn print_number(x: f32) {
-    print_word(numbers::bits_of_f32(x));
+pub fn print_number<W: Write>(out: &mut W, x: f32) -> io::Result<()> {
+    print_word(out, numbers::bits_of_f32(x))
 }
 
-pub fn print_words(record: &[u8], count: u32) {
-    let mut i: u32 = 0;
-    while i < count {
-        print_word(words::word(record, i));
-        i += 1;
+pub fn print_words<W: Write>(out: &mut W, record: &[u8], count: u32) -> io::Result<()> {
+    for i in 0..count {
+        print_word(out, words::word(record, i))?;
     }
+    Ok(())
 }
 
-pub fn print_flag(flag: bool) {
+pub fn print_flag<W: Write>(out: &mut W, flag: bool) -> io::Result<()> {
     if flag {
-        print(b"1");
+        print(out, "1")
     } else {
-        print(b"0");
+        print(out, "0")
     }
 }
 
-fn print_word(word: u32) {
-    print(b" ");
-    io::print_hex(STDOUT_FILENO, word as u64, 8);
+fn print_word<W: Write>(out: &mut W, word: u32) -> io::Result<()> {
+    write!(out, " {word:08x}")
 }

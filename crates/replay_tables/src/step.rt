@@ -2,14 +2,19 @@
 // of replay_axis: the operands, after "=" the refusal, the offset, the velocity and whether it moves.
 use crate::line::{print, print_decimal, print_flag, print_number, print_words};
 use axis::{AxisPhysics, KineticScrollStyle};
-use libc::STDIN_FILENO;
 use numbers::Rangef;
+use std::io;
+use std::io::{Read, Write};
 
-// Answers whether the record was whole and its line was written.
-pub fn replay_step(table: &[u8]) -> bool {
+// Answers whether the record was whole.
+pub fn replay_step<R: Read, W: Write>(
+    input: &mut R,
+    out: &mut W,
+    table: &[u8],
+) -> io::Result<bool> {
     let mut record = [0u8; 40];
-    if io::read_full(STDIN_FILENO, &mut record) < 40 {
-        return false;
+    if streams::read_full(input, &mut record)? < 40 {
+        return Ok(false);
     }
     let answer = axis::call::step_by(
         axis_of(&record),
@@ -19,15 +24,16 @@ pub fn replay_step(table: &[u8]) -> bool {
         flag_at(&record, 9),
         table,
     );
-    print(b"step");
-    print_words(&record, 10);
-    print(b" =");
-    print_decimal(answer.refusal as u64);
-    print_number(answer.stepped.offset);
-    print_number(answer.stepped.vel);
-    print(b" ");
-    print_flag(answer.stepped.moving);
-    print(b"\n")
+    print(out, "step")?;
+    print_words(out, &record, 10)?;
+    print(out, " =")?;
+    print_decimal(out, answer.refusal as u64)?;
+    print_number(out, answer.stepped.offset)?;
+    print_number(out, answer.stepped.vel)?;
+    print(out, " ")?;
+    print_flag(out, answer.stepped.moving)?;
+    print(out, "\n")?;
+    Ok(true)
 }
 
 fn axis_of(record: &[u8]) -> AxisPhysics {

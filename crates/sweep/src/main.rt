@@ -4,32 +4,37 @@
 
 mod line;
 
-use libc::{STDIN_FILENO, STDOUT_FILENO};
 use line::line_of;
+use std::io;
+use std::io::{LineWriter, Read, Write};
 
-// Reads a frame and prints its line, and says whether another may follow; a write that fails ends the run.
-fn run_one() -> bool {
+// Reads a frame and prints its line, and says whether another may follow.
+fn run_one<R: Read, W: Write>(input: &mut R, out: &mut W) -> io::Result<bool> {
     let mut bytes = [0u8; 416];
-    let got = io::read_full(STDIN_FILENO, &mut bytes);
+    let got = streams::read_full(input, &mut bytes)?;
     if got == 0 {
-        return false;
+        return Ok(false);
     }
     if got < 416 {
-        io::write_all(STDOUT_FILENO, b"1\n");
-        return false;
+        out.write_all(b"1\n")?;
+        return Ok(false);
     }
     let line = line_of(&bytes);
-    io::write_all(STDOUT_FILENO, &line)
+    out.write_all(&line)?;
+    Ok(true)
 }
 
-// A proved loop has to end, and nothing says that the input does: it counts down from a number that no run uses up.
-fn run_all() {
-    let mut turns = u64::MAX;
-    while turns > 0 && run_one() {
-        turns -= 1;
+// A proved loop has to end, and nothing says that the input does: it has more turns than any run takes.
+fn run_all<R: Read, W: Write>(input: &mut R, out: &mut W) -> io::Result<()> {
+    for _ in 0..u64::MAX {
+        if !run_one(input, out)? {
+            break;
+        }
     }
+    Ok(())
 }
 
-fn main() {
-    run_all();
+fn main(rt: HostRuntime) -> io::Result<()> {
+    let mut out = LineWriter::new(rt.alloc(), io::writer(&rt))?;
+    run_all(&mut rt.reader(), &mut out)
 }

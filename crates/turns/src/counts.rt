@@ -3,7 +3,8 @@ use crate::cells::print;
 use crate::grid::{TURNS, Turn, turn_at};
 use crate::ran::run;
 use crate::rows::{is_momentum, rows_of};
-use libc::STDOUT_FILENO;
+use std::io;
+use std::io::Write;
 
 #[derive(Clone, Copy)]
 enum Counted {
@@ -16,40 +17,46 @@ enum Counted {
     Bounced,
 }
 
-pub fn print_counts() {
-    print_count(Counted::Run);
-    print(b" turns were run, ");
-    print_none_or(Counted::Refused, b"none refused", b" refused");
-    print(b"; ");
+pub fn print_counts<W: Write>(out: &mut W) -> io::Result<()> {
+    print_count(out, Counted::Run)?;
+    print(out, " turns were run, ")?;
+    print_none_or(out, Counted::Refused, "none refused", " refused")?;
+    print(out, "; ")?;
     print_none_or(
+        out,
         Counted::Stray,
-        b"each belongs to exactly one row",
-        b" belong to no row or to more than one",
-    );
-    print(b". Of the ");
-    print_count(Counted::OtherThanMomentum);
-    print(b" from another source than Momentum ");
+        "each belongs to exactly one row",
+        " belong to no row or to more than one",
+    )?;
+    print(out, ". Of the ")?;
+    print_count(out, Counted::OtherThanMomentum)?;
+    print(out, " from another source than Momentum ")?;
     print_none_or(
+        out,
         Counted::Bounced,
-        b"all end with the bounce flag clear",
-        b" end with the bounce flag set",
-    );
-    print(b".\n");
+        "all end with the bounce flag clear",
+        " end with the bounce flag set",
+    )?;
+    print(out, ".\n")
 }
 
-fn print_count(counted: Counted) {
-    io::print_decimal(STDOUT_FILENO, count_of(counted));
+fn print_count<W: Write>(out: &mut W, counted: Counted) -> io::Result<()> {
+    let count = count_of(counted);
+    write!(out, "{count}")
 }
 
 // The words for none, or how many and the words for some.
-fn print_none_or(counted: Counted, none: &[u8], some: &[u8]) {
+fn print_none_or<W: Write>(
+    out: &mut W,
+    counted: Counted,
+    none: &str,
+    some: &str,
+) -> io::Result<()> {
     let count = count_of(counted);
     if count == 0 {
-        print(none);
-        return;
+        return print(out, none);
     }
-    io::print_decimal(STDOUT_FILENO, count);
-    print(some);
+    write!(out, "{count}{some}")
 }
 
 fn count_of(counted: Counted) -> u64 {

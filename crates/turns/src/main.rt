@@ -16,36 +16,42 @@ use cells::{
 use counts::print_counts;
 use ran::kept_over;
 use rows::{ROWS, Row, row_at};
+use std::io;
+use std::io::{LineWriter, Write};
 
-fn print_row(row: Row) {
+fn print_row<W: Write>(out: &mut W, row: Row) -> io::Result<()> {
     let kept = kept_over(row);
     let Row(sources, rubber_band, can_move, outside, parent, bounced, by) = row;
-    print_sources(sources);
-    print_rubber_band(rubber_band);
-    print_can_move(can_move);
-    print_wanted(outside, 7);
-    print_wanted(parent, 6);
-    print_wanted(bounced, 7);
-    print_taken(kept);
-    print_leaves(kept);
-    print_by(by);
-    print(b"|\n");
+    print_sources(out, sources)?;
+    print_rubber_band(out, rubber_band)?;
+    print_can_move(out, can_move)?;
+    print_wanted(out, outside, 7)?;
+    print_wanted(out, parent, 6)?;
+    print_wanted(out, bounced, 7)?;
+    print_taken(out, kept)?;
+    print_leaves(out, kept)?;
+    print_by(out, by)?;
+    print(out, "|\n")
 }
 
-fn print_rows() {
+fn print_rows<W: Write>(out: &mut W) -> io::Result<()> {
     for number in 0..ROWS {
-        print_row(row_at(number));
+        print_row(out, row_at(number))?;
     }
+    Ok(())
 }
 
-fn main() {
+fn main(rt: HostRuntime) -> io::Result<()> {
+    let mut out = LineWriter::new(rt.alloc(), io::writer(&rt))?;
     print(
-        b"| source    | rubber band | can move | outside | parent | bounced | taken | leaves                           | by         |\n",
-    );
+        &mut out,
+        "| source    | rubber band | can move | outside | parent | bounced | taken | leaves                           | by         |\n",
+    )?;
     print(
-        b"|-----------|-------------|----------|---------|--------|---------|-------|----------------------------------|------------|\n",
-    );
-    print_rows();
-    print(b"\n");
-    print_counts();
+        &mut out,
+        "|-----------|-------------|----------|---------|--------|---------|-------|----------------------------------|------------|\n",
+    )?;
+    print_rows(&mut out)?;
+    print(&mut out, "\n")?;
+    print_counts(&mut out)
 }

@@ -1,0 +1,21 @@
+use Rattle.std.proofs.Common.{◌≡◌, ◌<◌, refl, ap, ◌∙◌, arith, length-set}
+use Rattle.sweep.specs.Line.{digits_from, line_of}
+use Rattle.sweep.proofs.LineLaws.{written, turns}
+use Rattle.sweep.proofs.line.line_of.Goals as goal
+
+pub loop-n-init : goal.loop-n-init
+unfolding digits_from
+loop-n-init c = (omega arith, refl, refl)
+
+pub loop-n-preserved : goal.loop-n-preserved
+loop-n-preserved c =
+    let l = c.loop-n in
+    let h : l.n < 104 = omega arith in
+    (omega (arith, h), length-set l.line l.n _ ∙ l.invariant.1, turns _ l.line l.n _ h c.digit_after.ensures l.invariant.2)
+
+pub returns : goal.returns
+unfolding line_of
+returns c =
+    let l = c.loop-n in
+    let h : l.n ≡ 104 = omega arith in
+    l.invariant.2 ∙ ap (written _) h
