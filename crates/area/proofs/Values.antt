@@ -1,4 +1,4 @@
--- What the walks by hand take of the types State, Outcome and Answer: their machine values, and how an answer's relation and
+-- What a walk of the code takes of the types State, Outcome and Answer: their machine values, and how an answer's relation and
 -- those of its two fields go together. The values are shut, so that no step of a walk spells their fields out.
 -- What is of typing and of memory assumes `Logic`; all else assumes nothing.
 use mathlib.Core.Path.{refl, subst}
