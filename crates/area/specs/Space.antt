@@ -24,7 +24,7 @@ unfoldable pub bar_use_of : Bool → Float → Bool → Float → Float
 bar_use_of floating allocated_width show_bar show_bar_factor =
     cond floating (floating_bar_use allocated_width show_bar) (solid_bar_use allocated_width show_bar_factor)
 
--- show_bars[e], where state.show_scroll[e] is wasShown
+-- show_bars[e], where state.show_scroll[e] is was_shown
 abbrev pub show_bars : Settings → Bool → ℕ → Bool
 show_bars set was_shown e = shows_bar set.scroll_bar_visibility was_shown (flag set.direction_enabled e)
 

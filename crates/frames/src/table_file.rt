@@ -1,5 +1,5 @@
 // The table's file, which the program's argument names.
-ghost use Rattle.std.specs.Prelude.{◌≤◌, length, IfOk};
+ghost use Rattle.std.specs.Prelude.{◌≡◌, ◌≤◌, length, take, IfOk};
 
 use std::fs::File;
 use std::io;
@@ -14,7 +14,8 @@ pub struct Contents {
 
 // The file's bytes, as far as there is room. What cannot be read is told on standard error.
 pub fn read_table<R: Files + Eprint>(rt: &R, path: &str, room: &mut [u8]) -> Contents
-    ensures { result.count ≤ length room.new }
+    ensures within { result.count ≤ length room.new }
+    ensures prefix { result.count ≡ length (take result.count room.new) }
 {
     match read_file(rt, path, room) {
         Ok(count) => Contents {
@@ -34,7 +35,8 @@ pub fn read_table<R: Files + Eprint>(rt: &R, path: &str, room: &mut [u8]) -> Con
 
 // How many bytes were read: fewer than there is room for only where the file ends.
 fn read_file<F: Files>(files: &F, path: &str, room: &mut [u8]) -> io::Result<usize>
-    ensures { IfOk result (λ n. n ≤ length room.new) }
+    ensures within { IfOk result (λ n. n ≤ length room.new) }
+    ensures prefix { IfOk result (λ n. n ≡ length (take n room.new)) }
 {
     let mut file = File::open(files, path)?;
     streams::read_full(&mut file, room)
