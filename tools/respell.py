@@ -9,8 +9,8 @@ outputs keep their names. A lemma that would fall together with the function tha
 
 import os
 import re
+import subprocess
 
-KIT = "/opt/rattle/rattle"
 TOKEN = re.compile(r"[^\W\d][\w'-]*(?<!-)")
 DECLARED = re.compile(r"^(\s*)(?:(?:abbrev|unfoldable|pub|ruleset)\s+)*([A-Za-z_][\w'-]*)\s*:(?!=)")
 
@@ -66,8 +66,9 @@ def declared():
 
 def library():
     """The names of Rattle's own library, which keep their spelling."""
+    page = subprocess.run(["rt", "doc"], capture_output=True, text=True, check=True).stdout.strip()
     found = set()
-    for folder, _, names in os.walk(KIT):
+    for folder, _, names in os.walk(os.path.join(os.path.dirname(page), "rattle")):
         for n in names:
             if n.endswith(".antt"):
                 found.update(TOKEN.findall(read(os.path.join(folder, n))))
