@@ -2,8 +2,8 @@
 use std::io;
 use std::io::Write;
 
-pub fn print<W: Write>(out: &mut W, text: &str) -> io::Result<()> {
-    out.write_all(text.as_bytes())
+pub fn print<W: Write>(out: &mut W, text: &[u8]) -> io::Result<()> {
+    out.write_all(text)
 }
 
 // The words of a record from word 1 on.
@@ -24,9 +24,9 @@ pub fn print_number<W: Write>(out: &mut W, x: f32) -> io::Result<()> {
 
 pub fn print_flag<W: Write>(out: &mut W, flag: bool) -> io::Result<()> {
     if flag {
-        print(out, " 1")
+        print(out, b" 1")
     } else {
-        print(out, " 0")
+        print(out, b" 0")
     }
 }
 

@@ -25,12 +25,12 @@ fn replay_one<R: Read, W: Write>(input: &mut R, out: &mut W) -> io::Result<bool>
         2 => replay_step(out, &record)?,
         _ => replay_wheel(out, &record)?,
     }
-    print(out, "\n")?;
+    print(out, b"\n")?;
     Ok(true)
 }
 
 fn replay_drag<W: Write>(out: &mut W, record: &[u8]) -> io::Result<()> {
-    print(out, "drag")?;
+    print(out, b"drag")?;
     print_operands(out, record, 8)?;
     let answer = axis::call::drag(axis_of(record), number_at(record, 7), number_at(record, 8));
     print_refusal(out, answer.refusal)?;
@@ -38,7 +38,7 @@ fn replay_drag<W: Write>(out: &mut W, record: &[u8]) -> io::Result<()> {
 }
 
 fn replay_step<W: Write>(out: &mut W, record: &[u8]) -> io::Result<()> {
-    print(out, "step")?;
+    print(out, b"step")?;
     print_operands(out, record, 10)?;
     let answer = axis::call::step(
         axis_of(record),
@@ -54,7 +54,7 @@ fn replay_step<W: Write>(out: &mut W, record: &[u8]) -> io::Result<()> {
 }
 
 fn replay_wheel<W: Write>(out: &mut W, record: &[u8]) -> io::Result<()> {
-    print(out, "wheel")?;
+    print(out, b"wheel")?;
     print_operands(out, record, 13)?;
     let answer = axis::call::wheel(
         axis_of(record),

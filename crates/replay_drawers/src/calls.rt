@@ -9,8 +9,8 @@ use std::io::{Read, Write};
 // Each answers whether its input was whole.
 pub fn replay_lay<W: Write>(out: &mut W, buffer: &mut [u8]) -> io::Result<bool> {
     let refusal = host::strakobud_drawer_lay(buffer);
-    print_call(out, "lay", refusal, buffer)?;
-    print(out, "\n")?;
+    print_call(out, b"lay", refusal, buffer)?;
+    print(out, b"\n")?;
     Ok(true)
 }
 
@@ -26,8 +26,8 @@ pub fn replay_save<R: Read, W: Write>(
         return Ok(false);
     }
     let refusal = host::strakobud_drawer_save(buffer, number_of(&id), &state);
-    print_call(out, "save", refusal, buffer)?;
-    print(out, "\n")?;
+    print_call(out, b"save", refusal, buffer)?;
+    print(out, b"\n")?;
     Ok(true)
 }
 
@@ -43,7 +43,7 @@ pub fn replay_load<R: Read, W: Write>(
     // No load writes these bytes, so that one that refuses is seen to leave them.
     let mut state = [170u8; 156];
     let refusal = host::strakobud_drawer_load(buffer, number_of(&id), &mut state);
-    print_call(out, "load", refusal, buffer)?;
+    print_call(out, b"load", refusal, buffer)?;
     print_state(out, &state)?;
     Ok(true)
 }
@@ -58,14 +58,14 @@ pub fn replay_forget<R: Read, W: Write>(
         return Ok(false);
     }
     let refusal = host::strakobud_drawer_forget(buffer, number_of(&id));
-    print_call(out, "forget", refusal, buffer)?;
-    print(out, "\n")?;
+    print_call(out, b"forget", refusal, buffer)?;
+    print(out, b"\n")?;
     Ok(true)
 }
 
 fn print_state<W: Write>(out: &mut W, state: &[u8; 156]) -> io::Result<()> {
     print_mark(out, state)?;
-    print(out, "\n")
+    print(out, b"\n")
 }
 
 fn number_of(id: &[u8; 8]) -> u64 {

@@ -24,8 +24,8 @@ pub fn replay_given<R: Read, W: Write>(
         return Ok(false);
     }
     *used = n;
-    print_call(out, "given", 0, &room[0..n])?;
-    print(out, "\n")?;
+    print_call(out, b"given", 0, &room[0..n])?;
+    print(out, b"\n")?;
     Ok(true)
 }
 
@@ -46,7 +46,7 @@ pub fn replay_put<R: Read, W: Write>(
     if !fill(input, &mut buffer[start..end])? {
         return Ok(false);
     }
-    print_call(out, "put", 0, buffer)?;
-    print(out, "\n")?;
+    print_call(out, b"put", 0, buffer)?;
+    print(out, b"\n")?;
     Ok(true)
 }

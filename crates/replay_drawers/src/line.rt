@@ -3,13 +3,19 @@ use crate::mark::mark_of;
 use std::io;
 use std::io::Write;
 
-pub fn print<W: Write>(out: &mut W, text: &str) -> io::Result<()> {
-    out.write_all(text.as_bytes())
+pub fn print<W: Write>(out: &mut W, text: &[u8]) -> io::Result<()> {
+    out.write_all(text)
 }
 
 // All of a line but its end, and what a load adds.
-pub fn print_call<W: Write>(out: &mut W, name: &str, answer: u32, buffer: &[u8]) -> io::Result<()> {
-    write!(out, "{name} {answer}")?;
+pub fn print_call<W: Write>(
+    out: &mut W,
+    name: &[u8],
+    answer: u32,
+    buffer: &[u8],
+) -> io::Result<()> {
+    print(out, name)?;
+    write!(out, " {answer}")?;
     print_mark(out, buffer)
 }
 

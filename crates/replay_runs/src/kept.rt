@@ -9,7 +9,7 @@ use std::io::{Read, Write};
 // Each answers whether its input was whole.
 pub fn replay_fresh<W: Write>(out: &mut W, kept: &mut [u8; 156]) -> io::Result<bool> {
     host::strakobud_fresh(kept);
-    print(out, "fresh")?;
+    print(out, b"fresh")?;
     print_record(out, kept)?;
     Ok(true)
 }
@@ -22,7 +22,7 @@ pub fn replay_given<R: Read, W: Write>(
     if !fill(input, kept)? {
         return Ok(false);
     }
-    print(out, "given")?;
+    print(out, b"given")?;
     print_record(out, kept)?;
     Ok(true)
 }
@@ -43,7 +43,7 @@ pub fn replay_frame<R: Read, W: Write>(
     }
     let mut outputs = [0u8; 100];
     let refusal = host::strakobud_frame(kept, &frame[4..end], &mut outputs);
-    print(out, "frame")?;
+    print(out, b"frame")?;
     print_decimal(out, refusal as u64)?;
     print_record(out, kept)?;
     Ok(true)
@@ -51,12 +51,12 @@ pub fn replay_frame<R: Read, W: Write>(
 
 pub fn replay_reset<W: Write>(out: &mut W, kept: &mut [u8; 156]) -> io::Result<bool> {
     host::strakobud_reset(kept);
-    print(out, "reset")?;
+    print(out, b"reset")?;
     print_record(out, kept)?;
     Ok(true)
 }
 
 fn print_record<W: Write>(out: &mut W, kept: &[u8; 156]) -> io::Result<()> {
     print_words(out, kept, 39)?;
-    print(out, "\n")
+    print(out, b"\n")
 }

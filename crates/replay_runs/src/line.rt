@@ -2,8 +2,8 @@
 use std::io;
 use std::io::Write;
 
-pub fn print<W: Write>(out: &mut W, text: &str) -> io::Result<()> {
-    out.write_all(text.as_bytes())
+pub fn print<W: Write>(out: &mut W, text: &[u8]) -> io::Result<()> {
+    out.write_all(text)
 }
 
 pub fn print_decimal<W: Write>(out: &mut W, n: u64) -> io::Result<()> {

@@ -23,9 +23,9 @@ pub fn replay_load<R: Read, W: Write>(
         return Ok(false);
     }
     let refusal = host::strakobud_table_load(&room[0..n], table);
-    print(out, "load")?;
+    print(out, b"load")?;
     print_decimal(out, n as u64)?;
     print_decimal(out, refusal as u64)?;
-    print(out, "\n")?;
+    print(out, b"\n")?;
     Ok(true)
 }

@@ -62,9 +62,9 @@ fn print_line<W: Write>(
     used: &[u8; 4],
     state: &[u8; 156],
 ) -> io::Result<()> {
-    print(out, "run")?;
+    print(out, b"run")?;
     print_decimal(out, refusal as u64)?;
     print_words(out, used, 1)?;
     print_words(out, state, 39)?;
-    print(out, "\n")
+    print(out, b"\n")
 }

@@ -10,9 +10,9 @@ pub fn replay_exp<R: Read, W: Write>(input: &mut R, out: &mut W, table: &[u8]) -
         return Ok(false);
     }
     let x = numbers::f32_of_bits(words::word(&record, 0));
-    print(out, "exp")?;
+    print(out, b"exp")?;
     print_words(out, &record, 1)?;
     print_number(out, numbers::exp_by(x, table))?;
-    print(out, "\n")?;
+    print(out, b"\n")?;
     Ok(true)
 }

@@ -19,7 +19,7 @@ pub fn replay_frame<R: Read, W: Write>(
     }
     let answer = area::call_by(turn.state, turn.by, &bytes, table);
     let next = answer.state;
-    print(out, "frame")?;
+    print(out, b"frame")?;
     print_decimal(out, answer.outcome.refusal as u64)?;
     print_state(out, next)?;
     Ok(Turn {
@@ -32,7 +32,7 @@ pub fn replay_frame<R: Read, W: Write>(
 
 pub fn replay_reset<W: Write>(out: &mut W, turn: Turn) -> io::Result<Turn> {
     let next = area::reset(turn.state);
-    print(out, "reset")?;
+    print(out, b"reset")?;
     print_state(out, next)?;
     Ok(Turn {
         state: next,
@@ -47,8 +47,8 @@ fn print_state<W: Write>(out: &mut W, state: State) -> io::Result<()> {
     print_number(out, state.offset[1])?;
     print_number(out, state.vel[0])?;
     print_number(out, state.vel[1])?;
-    print(out, " ")?;
+    print(out, b" ")?;
     print_flag(out, state.scroll_stuck_to_end[0])?;
     print_flag(out, state.scroll_stuck_to_end[1])?;
-    print(out, "\n")
+    print(out, b"\n")
 }

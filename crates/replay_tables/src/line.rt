@@ -2,8 +2,8 @@
 use std::io;
 use std::io::Write;
 
-pub fn print<W: Write>(out: &mut W, text: &str) -> io::Result<()> {
-    out.write_all(text.as_bytes())
+pub fn print<W: Write>(out: &mut W, text: &[u8]) -> io::Result<()> {
+    out.write_all(text)
 }
 
 pub fn print_decimal<W: Write>(out: &mut W, n: u64) -> io::Result<()> {
@@ -23,9 +23,9 @@ pub fn print_words<W: Write>(out: &mut W, record: &[u8], count: u32) -> io::Resu
 
 pub fn print_flag<W: Write>(out: &mut W, flag: bool) -> io::Result<()> {
     if flag {
-        print(out, "1")
+        print(out, b"1")
     } else {
-        print(out, "0")
+        print(out, b"0")
     }
 }
 

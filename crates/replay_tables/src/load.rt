@@ -22,10 +22,10 @@ pub fn replay_load<R: Read, W: Write>(
         return Ok(turn.after(false));
     }
     let refusal = numbers::load(&room[0..n]);
-    print(out, "load")?;
+    print(out, b"load")?;
     print_decimal(out, n as u64)?;
     print_decimal(out, refusal as u64)?;
-    print(out, "\n")?;
+    print(out, b"\n")?;
     let mut next = turn.after(true);
     next.is_loaded = refusal == 0;
     Ok(next)

@@ -24,15 +24,15 @@ pub fn replay_step<R: Read, W: Write>(
         flag_at(&record, 9),
         table,
     );
-    print(out, "step")?;
+    print(out, b"step")?;
     print_words(out, &record, 10)?;
-    print(out, " =")?;
+    print(out, b" =")?;
     print_decimal(out, answer.refusal as u64)?;
     print_number(out, answer.stepped.offset)?;
     print_number(out, answer.stepped.vel)?;
-    print(out, " ")?;
+    print(out, b" ")?;
     print_flag(out, answer.stepped.moving)?;
-    print(out, "\n")?;
+    print(out, b"\n")?;
     Ok(true)
 }
 

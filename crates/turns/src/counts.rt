@@ -19,25 +19,25 @@ enum Counted {
 
 pub fn print_counts<W: Write>(out: &mut W) -> io::Result<()> {
     print_count(out, Counted::Run)?;
-    print(out, " turns were run, ")?;
-    print_none_or(out, Counted::Refused, "none refused", " refused")?;
-    print(out, "; ")?;
+    print(out, b" turns were run, ")?;
+    print_none_or(out, Counted::Refused, b"none refused", b" refused")?;
+    print(out, b"; ")?;
     print_none_or(
         out,
         Counted::Stray,
-        "each belongs to exactly one row",
-        " belong to no row or to more than one",
+        b"each belongs to exactly one row",
+        b" belong to no row or to more than one",
     )?;
-    print(out, ". Of the ")?;
+    print(out, b". Of the ")?;
     print_count(out, Counted::OtherThanMomentum)?;
-    print(out, " from another source than Momentum ")?;
+    print(out, b" from another source than Momentum ")?;
     print_none_or(
         out,
         Counted::Bounced,
-        "all end with the bounce flag clear",
-        " end with the bounce flag set",
+        b"all end with the bounce flag clear",
+        b" end with the bounce flag set",
     )?;
-    print(out, ".\n")
+    print(out, b".\n")
 }
 
 fn print_count<W: Write>(out: &mut W, counted: Counted) -> io::Result<()> {
@@ -49,14 +49,15 @@ fn print_count<W: Write>(out: &mut W, counted: Counted) -> io::Result<()> {
 fn print_none_or<W: Write>(
     out: &mut W,
     counted: Counted,
-    none: &str,
-    some: &str,
+    none: &[u8],
+    some: &[u8],
 ) -> io::Result<()> {
     let count = count_of(counted);
     if count == 0 {
         return print(out, none);
     }
-    write!(out, "{count}{some}")
+    write!(out, "{count}")?;
+    print(out, some)
 }
 
 fn count_of(counted: Counted) -> u64 {

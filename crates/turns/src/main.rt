@@ -31,7 +31,7 @@ fn print_row<W: Write>(out: &mut W, row: Row) -> io::Result<()> {
     print_taken(out, kept)?;
     print_leaves(out, kept)?;
     print_by(out, by)?;
-    print(out, "|\n")
+    print(out, b"|\n")
 }
 
 fn print_rows<W: Write>(out: &mut W) -> io::Result<()> {
@@ -45,13 +45,13 @@ fn main(rt: HostRuntime) -> io::Result<()> {
     let mut out = LineWriter::new(rt.alloc(), io::writer(&rt))?;
     print(
         &mut out,
-        "| source    | rubber band | can move | outside | parent | bounced | taken | leaves                           | by         |\n",
+        b"| source    | rubber band | can move | outside | parent | bounced | taken | leaves                           | by         |\n",
     )?;
     print(
         &mut out,
-        "|-----------|-------------|----------|---------|--------|---------|-------|----------------------------------|------------|\n",
+        b"|-----------|-------------|----------|---------|--------|---------|-------|----------------------------------|------------|\n",
     )?;
     print_rows(&mut out)?;
-    print(&mut out, "\n")?;
+    print(&mut out, b"\n")?;
     print_counts(&mut out)
 }
