@@ -1,12 +1,12 @@
 -- No word needs a later one: what the first n words show is told by these alone. With it, what holds of every walk. Assumes nothing.
 use Rattle.std.specs.Prelude.{◌≡◌, ℕ, zero, suc, ◌+◌, ◌-◌, ◌<◌, ◌≤◌, Bool, true, ◌&&◌, leb, List, [], ◌∷◌, length, get_or}
-use mathlib.Core.Path.{refl, sym, ap, ◌∙◌}
+use mathlib.Core.Path.{refl, sym, ap, ◌∙◌, subst}
 use native.Mathlib.Omega.{arith}
 use borrow.Author.Tests.{leb-true, eq-eqb}
 use Rattle.area.specs.Layout.{Row, kind, layout, rows, row_at, row_no}
 use Rattle.area.specs.Frame.{word_no, number_no, time_no}
 use Rattle.area.specs.Checks.{is_heeded, is_shown, shows_no, any_shows}
-use Rattle.area.specs.Sweep.{SameWords, lowest_of, swept_of, SweepHolds}
+use Rattle.area.specs.Sweep.{Swept, SameWords, lowest_of, swept_of, SweepHolds}
 use Rattle.numbers.proofs.TestLaws.{and_left, and_right}
 use Rattle.area.proofs.WalkLaws.{up_to_is, on_the_way, swept_refusal}
 
@@ -63,7 +63,7 @@ module _ (s t : List ℕ) where
   lowest_alone n same = rw (any_alone 2 n same, any_alone 3 n same, any_alone 4 n same, any_alone 5 n same)
 
 -- ---- what holds of every walk
-pub sweep_holds : (s : List ℕ) (n : ℕ) → SweepHolds s n (swept_of s n)
+sweep_holds : (s : List ℕ) (n : ℕ) → SweepHolds s n (swept_of s n)
 unfolding swept_of
 sweep_holds s n =
     record {
@@ -79,3 +79,6 @@ sweep_holds s n =
 
     keeps : length s ≡ 416 → n ≤ 104 → (swept_of s n).kept ≡ lowest_of s n
     keeps whole fits = rw (eq-eqb (length s) 416 whole) (ap (lowest_of s) (up_to_is n fits))
+
+pub holds_of : (s : List ℕ) (n : ℕ) (r : Swept) → r ≡ swept_of s n → SweepHolds s n r
+holds_of s n r is = subst (SweepHolds s n) (sym is) (sweep_holds s n)

@@ -124,7 +124,7 @@ unfolding frame_refusal
 is_whole s false e h = refl
 is_whole s true e h = absurd (omega (arith, subst (λ (b : Bool). 1 < cond b 1 (lowest_where (any_shows 2 s 104) (any_shows 3 s 104) (any_shows 4 s 104) (any_shows 5 s 104))) e h))
 
-pub bad_word_holds : (s : List ℕ) → BadWordHolds s (bad_word s)
+bad_word_holds : (s : List ℕ) → BadWordHolds s (bad_word s)
 unfolding bad_word
 bad_word_holds s = record {
   none = λ h. ap (λ (b : Bool). cond b (first_keeping s (frame_refusal s) 104) 0) (le-ltb 1 (frame_refusal s) h);
@@ -139,3 +139,6 @@ bad_word_holds s = record {
 
     kept : not (eqb (length s) 416) ≡ false → 1 < frame_refusal s → 0 < lowest_of s 104
     kept w h = omega (arith, h, lowest_is s w)
+
+pub holds_of : (s : List ℕ) (n : ℕ) → n ≡ bad_word s → BadWordHolds s n
+holds_of s n is = subst (BadWordHolds s) (sym is) (bad_word_holds s)

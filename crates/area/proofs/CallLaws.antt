@@ -1,9 +1,9 @@
 -- The steps of one frame are the frame call; what an accepted and what a refused frame tells. Assumes nothing.
-use Rattle.std.specs.Prelude.{◌≡◌, ℕ, Bool, true, false, cond, not, ◌&&◌, eqb, List, length}
+use Rattle.std.specs.Prelude.{◌≡◌, ℕ, Bool, true, false, cond, not, ◌&&◌, eqb, ◌==◌, ◌≢◌, List, [], ◌∷◌, length}
 use mathlib.Core.Path.{refl, sym, ap, ◌∙◌}
 use mathlib.Core.Bool.{true≢false, false≢true}
 use native.Mathlib.Omega.{arith}
-use borrow.Author.Tests.{eqb-true, eq-eqb}
+use borrow.Author.Tests.{eqb-true, eq-eqb, ne_eqb}
 use lib.Ieee.{Float}
 use Rattle.numbers.specs.Table.{Table}
 use Rattle.numbers.specs.Scalar.{is_finite}
@@ -19,9 +19,9 @@ use Rattle.area.specs.Call.{run_of, call_under}
 use Rattle.area.specs.Steps.{begun_at, ended_at, outputs_at, check_at, step_at, is_accepted}
 use Rattle.area.specs.Moved.{ended_on, extent_on}
 use Rattle.area.specs.declared.state.State.{State}
-use Rattle.area.specs.declared.frame.Frame.{Frame}
+use Rattle.area.specs.Fields.{Frame}
 use Rattle.area.specs.declared.end.Ended.{Ended}
-use Rattle.area.specs.declared.outcome.Answer.{Answer}
+use Rattle.area.specs.Outcome.{Answer, Outcome}
 use Rattle.numbers.proofs.TestLaws.{and_left, and_right, both_zero}
 use Rattle.area.proofs.PassedLaws.{first_of}
 
@@ -104,6 +104,21 @@ call_refused table S bytes a =
     refused_by S (outputs_at table S bytes) (refusal_before7 bytes S) (eqb (refusal_before7 bytes S) 0) (is_press_blocked (ended_at table S bytes))
     (is_answer_finite (outputs_at table S bytes)) (outputs_accepted table S bytes) a
 
+-- bytes of another length are refused with 1
+pub wrong_length : (bytes : List ℕ) → (length bytes ≢ 416) → 1 ≡ frame_refusal bytes
+unfolding frame_refusal
+wrong_length bytes h = rw (ne_eqb (length bytes) 416 h)
+
+-- a frame whose outcome is that of a refusal is refused
+pub refused_by_outcome : (table : Table) (S : State) (bytes : List ℕ) (k : ℕ) → (k == 0) ≡ false
+    → (refused_of S k).outcome ≡ (call_under table S bytes).outcome → refused_of S k ≡ call_under table S bytes
+unfolding refused_of
+refused_by_outcome table S bytes k h e =
+    let refused : is_accepted (call_under table S bytes) ≡ false = ap (λ (o : Outcome). o.refusal == 0) (sym e) ∙ h in
+    let answer = call_under table S bytes in
+    ap (λ (s : State). record { state = s; outcome = (refused_of S k).outcome }) (sym (call_refused table S bytes refused))
+    ∙ ap (λ (o : Outcome). record { state = answer.state; outcome = o }) e
+
 pub refusal_keeps : (table : Table) (S : State) (bytes : List ℕ) → is_accepted (step_at table S bytes) ≡ false → (step_at table S bytes).state ≡ S
 refusal_keeps table S bytes a = rw step_is_call (call_refused table S bytes (rw step_is_call at a))
 
@@ -183,16 +198,18 @@ remembered_finite t h =
     and_right (is_pair_finite t.offset && is_pair_finite t.max_offset && are_targets_finite t.offset_target && is_pair_finite t.vel
     && are_presses_finite t.scroll_start_offset_from_top_left && is_rect_finite t.interact_rect) (is_finite t.remembered_time) h
 
-pair_finite : (v : List Float) → is_pair_finite v ≡ true → (is_finite (num v 0) ≡ true) × (is_finite (num v 1) ≡ true)
+both_finite : (v : List Float) → is_pair_finite v ≡ true → (is_finite (num v 0) ≡ true) × (is_finite (num v 1) ≡ true)
 unfolding is_pair_finite
-pair_finite v h = (and_left (is_finite (num v 0)) (is_finite (num v 1)) h, and_right (is_finite (num v 0)) (is_finite (num v 1)) h)
+both_finite [] h = absurd (false≢true h)
+both_finite (x ∷ []) h = absurd (false≢true h)
+both_finite (x ∷ y ∷ rest) h = (and_left (is_finite x) (is_finite y) h, and_right (is_finite x) (is_finite y) h)
 
 ended_finite : (f : Frame) (e : Ended) → is_state_finite (next_state f e) ≡ true → IsFiniteOn e 0 × IsFiniteOn e 1
 unfolding next_state
 ended_finite f e h =
     let both = offsets_finite (next_state f e) h in
-    let offset = pair_finite (next_state f e).offset both.0 in
-    let maximum = pair_finite (next_state f e).max_offset both.1 in
+    let offset = both_finite (next_state f e).offset both.0 in
+    let maximum = both_finite (next_state f e).max_offset both.1 in
     (record { offset = offset.0; maximum = maximum.0 }, record { offset = offset.1; maximum = maximum.1 })
 
 outputs_finite : (table : Table) (S : State) (bytes : List ℕ) → is_answer_finite (outputs_at table S bytes) ≡ true

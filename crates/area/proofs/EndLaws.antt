@@ -1,5 +1,8 @@
 -- "a sticking axis that nobody moves shows the list's end": the bars begin by putting it on its end, and the clamps leave it there, and
 -- stuck. Assumes nothing.
+use Rattle.std.specs.Prelude.{Option, Some, None}
+use Rattle.numbers.specs.declared.shape.Pos2.{Pos2}
+use Rattle.std.specs.Prelude.{Float}
 use Rattle.std.specs.Prelude.{◌≡◌, ℕ, ◌+◌, Bool, true, false, cond, not, ◌&&◌, ◌||◌, ◌⊎◌, List, get_or}
 use mathlib.Core.Path.{refl, sym, ap, subst, ◌∙◌}
 use mathlib.Core.Logic.{inl, inr}
@@ -30,11 +33,9 @@ use Rattle.area.specs.Steps.{begun_at, ended_at, step_at, is_accepted}
 use Rattle.area.specs.Moved.{ended_on, extent_on, is_some_pos2, is_drag_heeded, is_press_heeded, is_moved_in, is_moved}
 use Rattle.area.specs.Lists.{maximum_offset, list_end, IsOnEnd}
 use Rattle.area.specs.declared.prepared.AxisBefore.{AxisBefore}
-use Rattle.area.specs.declared.frame.Frame.{Frame}
-use Rattle.area.specs.declared.frame.BarResponse.{BarResponse}
-use Rattle.area.specs.declared.frame.MaybePos2.{MaybePos2}
+use Rattle.area.specs.Fields.{Frame}
+use Rattle.area.specs.declared.fields.BarResponse.{BarResponse}
 use Rattle.area.specs.declared.state.State.{State}
-use Rattle.area.specs.declared.state.StartOffset.{StartOffset}
 use Rattle.area.specs.declared.prepared.AxisMotion.{AxisMotion}
 use Rattle.area.specs.declared.prepared.AxisSpace.{AxisSpace}
 use Rattle.area.specs.declared.prepared.AxisBegun.{AxisBegun}
@@ -70,20 +71,20 @@ unfolding bound_motion_of
 bound_leaves m true max_offset = inl refl
 bound_leaves m false max_offset = inr refl
 
-unpressed : (m : AxisMotion) (t : Track) (handle : Rangef) (stored : StartOffset) (press : MaybePos2) (d : ℕ) → is_some_pos2 press ≡ false
+unpressed : (m : AxisMotion) (t : Track) (handle : Rangef) (stored : Option Float) (press : Option Pos2) (d : ℕ) → is_some_pos2 press ≡ false
     → (press_of m t handle stored press d).motion ≡ m
 unfolding press_of
-unpressed m t handle stored MaybePos2.Nothing d h = refl
-unpressed m t handle stored (MaybePos2.Some p) d h = absurd (true≢false h)
+unpressed m t handle stored None d h = refl
+unpressed m t handle stored (Some p) d h = absurd (true≢false h)
 
-shown_leaves : (m : AxisMotion) (t : Track) (rubber_banding : Bool) (stored : StartOffset) (response : BarResponse) (d : ℕ)
+shown_leaves : (m : AxisMotion) (t : Track) (rubber_banding : Bool) (stored : Option Float) (response : BarResponse) (d : ℕ)
     → is_some_pos2 response.press ≡ false
     → IsLeft (shown_bar m t rubber_banding stored response d).motion.offset m.offset t.max_offset
 unfolding shown_bar
 shown_leaves m t rubber_banding stored response d h =
     rw (unpressed m t (handle_of t m.offset) stored response.press d h) (bound_leaves m rubber_banding t.max_offset)
 
-turn_leaves : (m : AxisMotion) (t : Track) (show_factor : Float) (rubber_banding : Bool) (stored : StartOffset) (response : BarResponse) (d : ℕ)
+turn_leaves : (m : AxisMotion) (t : Track) (show_factor : Float) (rubber_banding : Bool) (stored : Option Float) (response : BarResponse) (d : ℕ)
     → (not (eq show_factor zero) && is_some_pos2 response.press) ≡ false
     → IsLeft (turn_bar m t show_factor rubber_banding stored response d).motion.offset m.offset t.max_offset
 unfolding turn_bar
@@ -93,7 +94,7 @@ turn_leaves m t show_factor rubber_banding stored response d h =
     (λ k. inl refl)
     (λ k. shown_leaves m t rubber_banding stored response d (ap (λ (b : Bool). not b && is_some_pos2 response.press) (sym k) ∙ h))
 
-bar_leaves : (f : Frame) (d e : ℕ) (x : Extents) (show_scroll rubber_banding : Bool) (stored : StartOffset) (m : AxisMotion)
+bar_leaves : (f : Frame) (d e : ℕ) (x : Extents) (show_scroll rubber_banding : Bool) (stored : Option Float) (m : AxisMotion)
     → is_press_heeded f d show_scroll ≡ false
     → IsLeft (bar_of f d e (bar_space_of x) show_scroll rubber_banding stored m).motion.offset m.offset x.this.max_offset
 unfolding bar_of bar_space_of track_of is_press_heeded

@@ -1,11 +1,11 @@
 -- A scroll target under way moves the offset, and leaves the rubber band's flag and the stuck flag. Assumes nothing.
+use Rattle.std.specs.Prelude.{Option, Some, None}
 use Rattle.std.specs.Prelude.{◌≡◌}
 use mathlib.Core.Path.{refl}
 use lib.Ieee.{Float, lt}
 use Rattle.numbers.specs.F32.{one}
 use Rattle.numbers.specs.Blend.{interpolation_factor_of}
 use Rattle.area.specs.Follow.{is_near, arrived, moved_by, moved_towards, approach_of, followed_to, followed_of}
-use Rattle.area.specs.declared.state.MaybeTarget.{MaybeTarget}
 use Rattle.area.specs.declared.state.ScrollingToTarget.{ScrollingToTarget}
 use Rattle.area.specs.declared.prepared.AxisBegun.{AxisBegun}
 use Rattle.numbers.proofs.TestLaws.{either}
@@ -29,10 +29,10 @@ approach_keeps b t time dt =
     (record { rubber_banding = refl; stuck = refl })
     (towards_keeps b t factor)
 
-follow_keeps : (b : AxisBegun) (time dt : Float) (target : MaybeTarget) → KeepsFlags b (followed_to b time dt target)
-follow_keeps b time dt MaybeTarget.Nothing = record { rubber_banding = refl; stuck = refl }
-follow_keeps b time dt (MaybeTarget.Toward t) = approach_keeps b t time dt
+follow_keeps : (b : AxisBegun) (time dt : Float) (target : Option ScrollingToTarget) → KeepsFlags b (followed_to b time dt target)
+follow_keeps b time dt None = record { rubber_banding = refl; stuck = refl }
+follow_keeps b time dt (Some t) = approach_keeps b t time dt
 
 pub followed_keeps : (b : AxisBegun) (time dt : Float) → KeepsFlags b (followed_of b time dt)
 unfolding followed_of
-followed_keeps b time dt = follow_keeps b time dt b.motion.offset_target.target
+followed_keeps b time dt = follow_keeps b time dt b.motion.offset_target

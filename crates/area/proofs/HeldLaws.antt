@@ -1,5 +1,7 @@
 -- The numbers that a frame stores are ones that their formats hold, if those of the state that it began with are: what is passed on is held,
 -- and what is computed is rounded. Assumes nothing.
+use Rattle.std.specs.Prelude.{Option, Some, None}
+use Rattle.std.specs.Prelude.{Float}
 use mathlib.Core.Bool.{Bool, not}
 use mathlib.Core.List.{List, [], ◌∷◌}
 use Prim.Native.Nat.{ℕ, zero, suc}
@@ -16,11 +18,13 @@ use Rattle.axis.specs.declared.physics.AxisPhysics.{AxisPhysics}
 use Rattle.axis.specs.declared.physics.KineticScrollStyle.{KineticScrollStyle}
 use Rattle.axis.specs.declared.wheel.WheelScroll.{WheelScroll}
 use Rattle.axis.specs.Wheel.{wheel_of}
-use Rattle.axis.proofs.FitsLaws.{either, zero_held, clamp_held, lerp_held, remap_held, AreBounds, bounds_held, drag_held, step_held, wheel_held, Is32}
+use Rattle.numbers.proofs.TestLaws.{either}
+use Rattle.axis.proofs.FitsLaws.{zero_held, clamp_held, lerp_held, remap_held, AreBounds, bounds_held, drag_held, step_held, wheel_held, Is32}
 use Rattle.area.specs.Pair.{num, flag}
-use Rattle.area.specs.Geometry.{along_of, pick_of}
+use Rattle.numbers.specs.Shape.{along_of}
+use Rattle.area.specs.Geometry.{pick_of}
 use Rattle.area.specs.Layout as At
-use Rattle.area.specs.Frame.{frame_of, settings_of, host_of, given_offset_no, maybe_number_no, number_no, flag_no, time_no, rect_no, pos2_no}
+use Rattle.area.specs.Frame.{frame_of, settings_of, host_of, maybe_number_no, number_no, flag_no, time_no, rect_no, pos2_no, option_no}
 use Rattle.area.specs.State.{no_target, clamped_to}
 use Rattle.area.specs.AxisPhysics.{physics_of}
 use Rattle.area.specs.Drive.{given_offset_or, no_given_offset, opened_of, before_of, dragged_of, dragged_to, left_alone, released_of, stepped_of, driven_of}
@@ -40,17 +44,10 @@ use Rattle.area.specs.PutOut.{next_state, answer_of}
 use Rattle.area.specs.Outcome.{refused_of}
 use Rattle.area.specs.Call.{run_of, call_under}
 use Rattle.area.specs.declared.state.State.{State}
-use Rattle.area.specs.declared.state.MaybeTarget.{MaybeTarget}
 use Rattle.area.specs.declared.state.ScrollingToTarget.{ScrollingToTarget}
-use Rattle.area.specs.declared.state.OffsetTarget.{OffsetTarget}
-use Rattle.area.specs.declared.state.MaybePress.{MaybePress}
-use Rattle.area.specs.declared.state.StartOffset.{StartOffset}
-use Rattle.area.specs.declared.frame.Frame.{Frame}
-use Rattle.area.specs.declared.frame.GivenOffset.{GivenOffset}
-use Rattle.area.specs.declared.frame.MaybeNumber.{MaybeNumber}
-use Rattle.area.specs.declared.frame.MaybePos2.{MaybePos2}
-use Rattle.area.specs.declared.frame.ScrollAnimation.{ScrollAnimation}
-use Rattle.area.specs.declared.frame.BarResponse.{BarResponse}
+use Rattle.area.specs.Fields.{Frame}
+use Rattle.area.specs.declared.fields.ScrollAnimation.{ScrollAnimation}
+use Rattle.area.specs.declared.fields.BarResponse.{BarResponse}
 use Rattle.area.specs.declared.prepared.AxisMotion.{AxisMotion}
 use Rattle.area.specs.declared.prepared.AxisBefore.{AxisBefore}
 use Rattle.area.specs.declared.prepared.AxisBegun.{AxisBegun}
@@ -67,24 +64,24 @@ use Rattle.area.specs.declared.bar.Barred.{Barred}
 use Rattle.area.specs.declared.end.Extents.{Extents}
 use Rattle.area.specs.declared.end.AxisEnded.{AxisEnded}
 use Rattle.area.specs.declared.end.Ended.{Ended}
-use Rattle.area.specs.declared.outcome.Answer.{Answer}
+use Rattle.area.specs.Outcome.{Answer}
 
 abbrev pub Is64 : Float → Type 0
 Is64 x = T (fits binary64 x)
 
-abbrev pub IsTarget : MaybeTarget → Type 0
-IsTarget MaybeTarget.Nothing = Unit {0}
-IsTarget (MaybeTarget.Toward t) = Is64 t.start × Is64 t.end × Is32 t.target_offset
+abbrev pub IsTarget : Option ScrollingToTarget → Type 0
+IsTarget None = Unit {0}
+IsTarget (Some t) = Is64 t.start × Is64 t.end × Is32 t.target_offset
 
-abbrev pub IsPress : MaybePress → Type 0
-IsPress MaybePress.Nothing = Unit {0}
-IsPress (MaybePress.At x) = Is32 x
+abbrev pub IsPress : Option Float → Type 0
+IsPress None = Unit {0}
+IsPress (Some x) = Is32 x
 
 -- what of the state moves on an axis
 pub record IsMotion (m : AxisMotion) : Type 0 where
   pub offset : Is32 m.offset
   pub vel : Is32 m.vel
-  pub target : IsTarget m.offset_target.target
+  pub target : IsTarget m.offset_target
 
 -- ---- the frame's own numbers
 number_held : (s : List ℕ) (n : ℕ) → Is32 (number_no s n)
@@ -95,28 +92,28 @@ time_held : (s : List ℕ) (n : ℕ) → Is64 (time_no s n)
 unfolding time_no
 time_held s n = of_bits-fits binary64 _
 
-abbrev IsGiven : MaybeNumber → Type 0
-IsGiven MaybeNumber.Nothing = Unit {0}
-IsGiven (MaybeNumber.Some x) = Is32 x
+abbrev IsGiven : Option Float → Type 0
+IsGiven None = Unit {0}
+IsGiven (Some x) = Is32 x
 
-given_held : (s : List ℕ) (n : ℕ) → IsGiven (given_offset_no s n).number
-unfolding given_offset_no maybe_number_no
+given_held : (s : List ℕ) (n : ℕ) → IsGiven (maybe_number_no s n)
+unfolding option_no
 given_held s n = either IsGiven (flag_no s n) _ _ (number_held s _) tt
 
-given_or_held : (g : GivenOffset) (offset : Float) → IsGiven g.number → Is32 offset → Is32 (given_offset_or g offset)
+given_or_held : (g : Option Float) (offset : Float) → IsGiven g → Is32 offset → Is32 (given_offset_or g offset)
 unfolding given_offset_or
-given_or_held g offset is h = of g.number is
+given_or_held g offset is h = of g is
   where
-    of : (m : MaybeNumber) → IsGiven m → Is32 (Rattle.area.specs.Drive.unwrap_or m offset)
-    of MaybeNumber.Nothing is = h
-    of (MaybeNumber.Some x) is = is
+    of : (m : Option Float) → IsGiven m → Is32 (Rattle.area.specs.Drive.unwrap_or m offset)
+    of None is = h
+    of (Some x) is = is
 
 along_held : (s : List ℕ) (n d : ℕ) → Is32 (along_of (pos2_no s n) d)
 unfolding along_of pos2_no
 along_held s n d = either Is32 _ _ _ (number_held s n) (number_held s _)
 
 -- ---- begin
-no_target_held : IsTarget no_target.target
+no_target_held : IsTarget no_target
 no_target_held = tt
 
 dragged_held : (m : AxisMotion) (p : AxisPhysics) (i : AxisInput) → AreBounds p.bounds → IsMotion m → IsMotion (dragged_of m p i).motion
@@ -140,7 +137,7 @@ unfolding driven_of
 driven_held table m p i are is =
     either (λ (b : AxisBegun). IsMotion b.motion) i.dragged _ _ (dragged_held m p i are is) (stepped_held table m p i are is)
 
-approach_held : (b : AxisBegun) (t : ScrollingToTarget) (time dt : Float) → IsTarget (MaybeTarget.Toward t) → IsMotion (approach_of b t time dt).motion
+approach_held : (b : AxisBegun) (t : ScrollingToTarget) (time dt : Float) → IsTarget (Some t) → IsMotion (approach_of b t time dt).motion
 unfolding approach_of moved_towards
 approach_held b t time dt is =
     let P : AxisBegun → Type 0 = λ (a : AxisBegun). IsMotion a.motion in
@@ -150,11 +147,11 @@ approach_held b t time dt is =
 
 followed_held : (b : AxisBegun) (time dt : Float) → IsMotion b.motion → IsMotion (followed_of b time dt).motion
 unfolding followed_of
-followed_held b time dt is = of b.motion.offset_target.target is.target
+followed_held b time dt is = of b.motion.offset_target is.target
   where
-    of : (t : MaybeTarget) → IsTarget t → IsMotion (Rattle.area.specs.Follow.followed_to b time dt t).motion
-    of MaybeTarget.Nothing h = is
-    of (MaybeTarget.Toward t) h = approach_held b t time dt h
+    of : (t : Option ScrollingToTarget) → IsTarget t → IsMotion (Rattle.area.specs.Follow.followed_to b time dt t).motion
+    of None h = is
+    of (Some t) h = approach_held b t time dt h
 
 physics_held : (k : KineticScrollStyle) (enabled large : Bool) (max_offset extent : Float) → Is32 max_offset
     → AreBounds (physics_of k enabled large max_offset extent).bounds
@@ -169,14 +166,14 @@ begun_held table f d before m inner drag hold h is =
     (driven_held table m (last_physics_of f d before inner) (input_of f d drag hold) (physics_held _ _ _ before.max_offset inner h) is)
 
 -- ---- end
-retarget_held : (o : OffsetTarget) (goal delta : Float) (animation : ScrollAnimation) (now : Float) → IsTarget o.target → Is32 goal → Is64 now
-    → IsTarget (Adjust.retarget_of o goal delta animation now).target
+retarget_held : (o : Option ScrollingToTarget) (goal delta : Float) (animation : ScrollAnimation) (now : Float) → IsTarget o → Is32 goal → Is64 now
+    → IsTarget (Adjust.retarget_of o goal delta animation now)
 unfolding Adjust.retarget_of
-retarget_held o goal delta animation now is g n = of o.target is
+retarget_held o goal delta animation now is g n = of o is
   where
-    of : (t : MaybeTarget) → IsTarget t → IsTarget (Adjust.retargeted t goal delta animation now).target
-    of MaybeTarget.Nothing h = (n, add-fits binary64 _ _, g)
-    of (MaybeTarget.Toward t) h = (h.0, h.1, g)
+    of : (t : Option ScrollingToTarget) → IsTarget t → IsTarget (Adjust.retargeted t goal delta animation now)
+    of None h = (n, add-fits binary64 _ _, g)
+    of (Some t) h = (h.0, h.1, g)
 
 adjusted_held : (m : AxisMotion) (asked : AskedDelta) (enabled animated : Bool) (now : Float) → Is64 now → IsMotion m
     → IsMotion (Adjust.adjusted_by m asked enabled animated now).motion
@@ -213,26 +210,26 @@ unfolding clamped_to
 clamped_held offset max_offset o h = let b = bounds_held max_offset h in clamp_held offset _ _ o b.0 b.1
 
 -- a press keeps its start, or takes a difference
-start_held : (stored : StartOffset) (t : Track) (handle : Rangef) (p : Pos2) (d : ℕ) → IsPress stored.press → Is32 (start_offset_of stored t handle p d)
+start_held : (stored : Option Float) (t : Track) (handle : Rangef) (p : Pos2) (d : ℕ) → IsPress stored → Is32 (start_offset_of stored t handle p d)
 unfolding start_offset_of new_start_offset
-start_held stored t handle p d is = of stored.press is
+start_held stored t handle p d is = of stored is
   where
-    of : (m : MaybePress) → IsPress m → Is32 (Rattle.area.specs.Press.start_offset_in m t handle p d)
-    of MaybePress.Nothing h = either Is32 (is_on_handle t handle p d) _ _ (sub-fits binary32 _ _) (sub-fits binary32 _ _)
-    of (MaybePress.At x) h = h
+    of : (m : Option Float) → IsPress m → Is32 (Rattle.area.specs.Press.start_offset_in m t handle p d)
+    of None h = either Is32 (is_on_handle t handle p d) _ _ (sub-fits binary32 _ _) (sub-fits binary32 _ _)
+    of (Some x) h = h
 
 offset_held : (t : Track) (handle : Rangef) (top : Float) → Is32 (offset_of t handle top)
 unfolding offset_of
 offset_held t handle top = either Is32 (eq t.bar.min (handle_top_pos_at_bottom t handle)) _ _ zero_held (remap_held _ _ _ _ _)
 
 abbrev IsPressed : Pressed → Type 0
-IsPressed p = IsMotion p.motion × IsPress p.press.press
+IsPressed p = IsMotion p.motion × IsPress p.press
 
-pressed_held : (m : AxisMotion) (t : Track) (handle : Rangef) (stored : StartOffset) (p : MaybePos2) (d : ℕ) → IsMotion m → IsPress stored.press
+pressed_held : (m : AxisMotion) (t : Track) (handle : Rangef) (stored : Option Float) (p : Option Pos2) (d : ℕ) → IsMotion m → IsPress stored
     → IsPressed (press_of m t handle stored p d)
 unfolding press_of press_at
-pressed_held m t handle stored MaybePos2.Nothing d is h = (is, tt)
-pressed_held m t handle stored (MaybePos2.Some p) d is h =
+pressed_held m t handle stored None d is h = (is, tt)
+pressed_held m t handle stored (Some p) d is h =
     (record { offset = offset_held t handle _; vel = is.vel; target = tt }, start_held stored t handle p d h)
 
 bound_held : (m : AxisMotion) (rubber_banding : Bool) (max_offset : Float) → Is32 max_offset → IsMotion m → IsMotion (bound_motion_of m rubber_banding max_offset)
@@ -242,10 +239,10 @@ bound_held m rubber_banding max_offset h is =
     (record { offset = clamped_held m.offset max_offset is.offset h; vel = either Is32 _ _ _ zero_held is.vel; target = is.target })
 
 abbrev IsBarred : Barred → Type 0
-IsBarred b = IsMotion b.motion × IsPress b.press.press
+IsBarred b = IsMotion b.motion × IsPress b.press
 
-bar_held : (m : AxisMotion) (t : Track) (factor : Float) (rubber_banding : Bool) (stored : StartOffset) (response : BarResponse) (d : ℕ) → Is32 t.max_offset
-    → IsMotion m → IsPress stored.press → IsBarred (turn_bar m t factor rubber_banding stored response d)
+bar_held : (m : AxisMotion) (t : Track) (factor : Float) (rubber_banding : Bool) (stored : Option Float) (response : BarResponse) (d : ℕ) → Is32 t.max_offset
+    → IsMotion m → IsPress stored → IsBarred (turn_bar m t factor rubber_banding stored response d)
 unfolding turn_bar shown_bar
 bar_held m t factor rubber_banding stored response d h is press =
     let p = pressed_held m t (handle_of t m.offset) stored response.press d is press in
@@ -254,7 +251,7 @@ bar_held m t factor rubber_banding stored response d h is press =
 -- what the last frame left on an axis, and the room that the frame has for it
 pub record IsBefore (b : AxisBefore) : Type 0 where
   pub max_offset : Is32 b.max_offset
-  pub press : IsPress b.press.press
+  pub press : IsPress b.press
 
 pub record IsExtent (x : AxisExtent) : Type 0 where
   pub min : Is32 x.min
@@ -264,8 +261,8 @@ pub record IsExtent (x : AxisExtent) : Type 0 where
 pub record IsEnded (e : AxisEnded) : Type 0 where
   pub offset : Is32 e.offset
   pub vel : Is32 e.vel
-  pub target : IsTarget e.offset_target.target
-  pub press : IsPress e.press.press
+  pub target : IsTarget e.offset_target
+  pub press : IsPress e.press
 
 ended_held : (f : Frame) (d e : ℕ) (before : AxisBefore) (space : AxisSpace) (x : Extents) (wheel : WheelHeard) (b : AxisBegun) → Is64 f.host.time
     → IsBefore before → IsExtent x.this → IsMotion b.motion → IsEnded (axis_ended_of f d e before space x wheel b)
@@ -298,7 +295,7 @@ pub record Opens (s : State) : Type 0 where
   pub before : (d : ℕ) → IsBefore (before_of s d)
   pub offset : (d : ℕ) → Is32 (num s.offset d)
   pub vel : (d : ℕ) → Is32 (num s.vel d)
-  pub target : (d : ℕ) → IsTarget (Rattle.std.specs.Prelude.slice_index_or s.offset_target d no_target).target
+  pub target : (d : ℕ) → IsTarget (Rattle.std.specs.Prelude.slice_index_or s.offset_target d no_target)
 
 opened_held : (bytes : List ℕ) (s : State) → Opens s → (d : ℕ) → IsMotion (opened_of (frame_of bytes).settings s d)
 unfolding opened_of frame_of settings_of
@@ -308,7 +305,7 @@ opened_held bytes s is d = record {
   target = is.target d;
 }
   where
-    given : (d : ℕ) → IsGiven (Rattle.std.specs.Prelude.slice_index_or (given_offset_no bytes At.offset_x ∷ given_offset_no bytes At.offset_y ∷ []) d no_given_offset).number
+    given : (d : ℕ) → IsGiven (Rattle.std.specs.Prelude.slice_index_or (maybe_number_no bytes At.offset_x ∷ maybe_number_no bytes At.offset_y ∷ []) d no_given_offset)
     given zero = given_held bytes At.offset_x
     given (suc zero) = given_held bytes At.offset_y
     given (suc (suc d)) = tt

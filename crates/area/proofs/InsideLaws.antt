@@ -17,7 +17,7 @@ use Rattle.area.specs.Steps.{begun_at, ended_at, outputs_at, step_at, is_accepte
 use Rattle.area.specs.Moved.{is_moved_by_words}
 use Rattle.area.specs.SettlingRun.{is_no_limit, is_no_increment, run_refusal, settle_refusal, advanced, is_inside, FrameInside}
 use Rattle.area.specs.declared.state.State.{State}
-use Rattle.area.specs.declared.outcome.Answer.{Answer}
+use Rattle.area.specs.Outcome.{Answer}
 use Rattle.numbers.proofs.TestLaws.{not_left, not_right}
 use Rattle.area.proofs.CallLaws.{called, step_is_call, outputs_accepted, twelve, accepted, whole_if_passed}
 use Rattle.area.proofs.PassedLaws.{unrefused, passed_time}

@@ -1,4 +1,3 @@
-pub mod PairLaws
 pub mod SweepLaws
 pub mod WalkLaws
 pub mod AloneLaws
@@ -26,6 +25,5 @@ pub mod ClockLaws
 pub mod ListingLaws
 pub mod ListLaws
 pub mod ReplayLaws
-pub mod Values
 pub mod Calls
 pub mod HeldLaws

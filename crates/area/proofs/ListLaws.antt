@@ -13,8 +13,8 @@ use Rattle.area.specs.Lists.{Call, by_value, lent, settle, reset, Told, of_frame
 use Rattle.area.specs.Lists.{Run, ends, returned, left, settled, cleared, feed_from, told_from}
 use Rattle.area.specs.Lists.{RangeAlong, EndAlong, DistancesAlong, Whole, AllLists}
 use Rattle.area.specs.declared.state.State.{State}
-use Rattle.area.specs.declared.outcome.Answer.{Answer}
-use Rattle.area.specs.declared.settling_run.Settled.{Settled}
+use Rattle.area.specs.Outcome.{Answer}
+use Rattle.area.specs.SettlingRun.{Settled}
 use Rattle.numbers.proofs.TestLaws.{chosen}
 use Rattle.area.proofs.CallLaws.{step_is_call, refusal_keeps}
 use Rattle.area.proofs.RangeLaws.{in_range}

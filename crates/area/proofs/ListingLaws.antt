@@ -11,13 +11,14 @@ use Rattle.axis.specs.Physics.{scroll_bounds_of, is_rubber_banding}
 use Rattle.axis.specs.Step.{step_of, coast_of}
 use Rattle.area.specs.State.{default, clamped_to, clamped_offset}
 use Rattle.area.specs.Layout.{layout, rows, row_at, row_no}
-use Rattle.area.specs.Frame.{word_no, number_no, flag_no, time_no, pair_no, flags_no, pos2_no, rect_no, maybe_number_no, given_offset_no}
-use Rattle.area.specs.Frame.{visibility_no, drag_no, maybe_scroll_target_no, target_request_no, settings_of, style_of, host_of, content_of, frame_of}
+use Rattle.area.specs.Frame.{word_no, number_no, flag_no, time_no, pair_no, flags_no, pos2_no, rect_no, option_no, kind_no}
+use Rattle.area.specs.Frame.{visibility_no, drag_no, maybe_scroll_target_no, maybe_scroll_target_no, settings_of, style_of, host_of, content_of, frame_of}
 use Rattle.area.specs.Clock.{clock_refusal}
 use Rattle.area.specs.Checks.{is_heeded, shows2, shows3, shows4, shows5, is_shown, shows_no, any_shows, frame_refusal}
-use Rattle.area.specs.Checks.{is_pair_finite, is_target_finite, are_targets_finite, is_press_finite, are_presses_finite, is_rect_finite, is_state_finite}
+use Rattle.area.specs.Checks.{is_pair_finite, are_targets_finite, are_presses_finite, is_rect_finite, is_state_finite}
 use Rattle.area.specs.Checks.{state_refusal, refusal_of, refusal_before7}
-use Rattle.area.specs.Geometry.{along_of, pick_of, shows_bar}
+use Rattle.numbers.specs.Shape.{along_of}
+use Rattle.area.specs.Geometry.{pick_of, shows_bar}
 use Rattle.area.specs.AxisPhysics.{physics_of}
 use Rattle.area.specs.Space.{bar_use_of, current_bar_use_of, side_of, space_by, space_of, inner_rect}
 use Rattle.area.specs.Space as Space
@@ -32,7 +33,7 @@ use Rattle.area.specs.Handle.{show_factor_of}
 use Rattle.area.specs.Bar.{turn_bar, bar_of}
 use Rattle.area.specs.FinalClamp.{final_clamp_of}
 use Rattle.area.specs.End.{ended_by, finished_of, axis_ended_of, shrunk_rect_of, end_of, is_press_blocked}
-use Rattle.area.specs.Outcome.{is_handle_finite, is_outcome_finite, is_answer_finite}
+use Rattle.area.specs.Outcome.{is_outcome_finite, is_answer_finite}
 use Rattle.area.specs.PutOut.{next_state, wheel_delta_left, scroll_delta_left, outcome_of, answer_of}
 use Rattle.area.specs.Steps.{begun_at, ended_at, outputs_at, check_at, step_at}
 use Rattle.area.specs.Moved.{is_moved_by_words, is_drag_heeded, is_press_heeded, is_moved_in, is_moved}
@@ -45,10 +46,10 @@ unfolding
     exceeds_limit is_decay_time_outside scroll_bounds_of is_rubber_banding step_of coast_of
     default clamped_to clamped_offset
     layout rows row_at row_no
-    word_no number_no flag_no time_no pair_no flags_no pos2_no rect_no maybe_number_no given_offset_no
-    visibility_no drag_no maybe_scroll_target_no target_request_no settings_of style_of host_of content_of frame_of
+    word_no number_no flag_no time_no pair_no flags_no pos2_no rect_no option_no kind_no
+    settings_of style_of host_of content_of frame_of
     is_heeded shows2 shows3 shows4 shows5 is_shown shows_no any_shows frame_refusal
-    is_pair_finite is_target_finite are_targets_finite is_press_finite are_presses_finite is_rect_finite is_state_finite state_refusal refusal_of clock_refusal refusal_before7
+    is_pair_finite are_targets_finite are_presses_finite is_rect_finite is_state_finite state_refusal refusal_of clock_refusal refusal_before7
     along_of pick_of shows_bar physics_of
     bar_use_of current_bar_use_of side_of Space.inner_size_of space_by space_of inner_rect
     given_offset_or opened_of before_of released_of stepped_of driven_of followed_of
@@ -57,7 +58,7 @@ unfolding
     inner_size_of extent_by extent_of
     heard_of turned_of stick_of show_factor_of turn_bar bar_of final_clamp_of
     ended_by finished_of axis_ended_of shrunk_rect_of end_of is_press_blocked
-    is_handle_finite is_outcome_finite is_answer_finite
+    is_outcome_finite is_answer_finite
     next_state wheel_delta_left scroll_delta_left outcome_of answer_of
     begun_at ended_at outputs_at check_at step_at
     is_moved_by_words is_drag_heeded is_press_heeded is_moved_in is_moved

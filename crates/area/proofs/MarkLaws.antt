@@ -1,9 +1,9 @@
 -- What a word's bits tell at once of the numbers that it shows. Assumes nothing.
-use Rattle.std.specs.Prelude.{◌≡◌, ℕ, ◌%◌, ◌^◌, ◌<◌, Bool, true, false, not, ◌&&◌, eqb, leb}
+use Rattle.std.specs.Prelude.{◌≡◌, ℕ, ◌%◌, ◌^◌, ◌<◌, Bool, true, false, not, ◌&&◌, ◌==◌, eqb, leb}
 use mathlib.Core.Path.{refl, sym, ap, ◌∙◌}
 use native.Mathlib.Omega.{arith}
 use lib.Ieee.{binary32, of_bits, to_bits, lt, le, ne, eq, div}
-use borrow.Author.Tests.{leb-true, le-ltb}
+use borrow.Author.Tests.{eqb-false, leb-true, le-ltb, ne_eqb}
 use Rattle.numbers.specs.F32 as F32
 use Rattle.numbers.specs.Scalar.{is_finite}
 use Rattle.numbers.proofs.NegativeLaws.{word_below_zero}
@@ -11,7 +11,10 @@ use Rattle.axis.specs.Limits.{exceeds_limit}
 use Rattle.axis.proofs.WordLaws.{word_outside}
 use Rattle.area.specs.Layout.{size_or_infinity, points_per_second, size}
 use Rattle.area.specs.Checks.{infinity, shows2, shows3, shows4, shows5}
-use Rattle.area.specs.Marks.{shown_of}
+use Rattle.refusals.specs.Refusal.{number_of}
+use Rattle.refusals.specs.declared.Refusal.{Refusal}
+use Rattle.area.specs.declared.marks.shown.Shown.{Shown}
+use Rattle.area.specs.Marks.{mark_of, shown_of}
 use Rattle.numbers.proofs.TestLaws.{or_false, and_true}
 use Rattle.area.proofs.InfinityLaws.{word_not_infinity}
 
@@ -39,3 +42,24 @@ finite w fits e = sym (word_not_infinity w fits) ∙ ap not e
 pub finite_size : (w : ℕ) → w < 2 ^ 32 → eqb w 0x7f80_0000 ≡ false → shown_of size_or_infinity w 0 ≡ shown_of size w 0
 unfolding shown_of shows2 shows3 shows4 shows5
 finite_size w fits e = rw (finite w fits e) (simp (or_false, and_true) refl)
+
+-- no refusal has the number 0, and so no mark of a word that shows one is 0
+pub some_number : (r : Refusal) → number_of r == 0 ≡ false
+some_number Refusal.FrameLength = refl
+some_number Refusal.FlagOrKind = refl
+some_number Refusal.Exceeds = refl
+some_number Refusal.Outside = refl
+some_number Refusal.Style = refl
+some_number Refusal.State = refl
+some_number Refusal.PressBlocked = refl
+some_number Refusal.Outcome = refl
+some_number Refusal.Run = refl
+some_number Refusal.TableLength = refl
+some_number Refusal.TableOrder = refl
+some_number Refusal.Clock = refl
+some_number Refusal.NoDrawer = refl
+some_number Refusal.NoEntry = refl
+some_number Refusal.DrawerFull = refl
+
+pub some_mark : (m : Shown) → mark_of m == 0 ≡ false
+some_mark m = ne_eqb (mark_of m) 0 (λ z. eqb-false (number_of m.refusal) 0 (some_number m.refusal) (omega (arith, z)))

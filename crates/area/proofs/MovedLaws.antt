@@ -1,5 +1,9 @@
 -- An axis that no word of an accepted frame moves is not moved by the steps: so the reading by words follows from the narrowest.
 -- Assumes nothing.
+use Rattle.std.specs.Prelude.{Option, Some, None}
+use Rattle.numbers.specs.declared.shape.Pos2.{Pos2}
+use Rattle.area.specs.declared.fields.ScrollTarget.{ScrollTarget}
+use Rattle.std.specs.Prelude.{Float}
 use Rattle.std.specs.Prelude.{◌≡◌, ℕ, ◌+◌, Bool, true, false, not, ◌&&◌, ◌||◌, List, get_or}
 use mathlib.Core.Path.{refl}
 use mathlib.Core.Bool.{true≢false}
@@ -14,8 +18,8 @@ use Rattle.axis.specs.declared.wheel.WheelScroll.{WheelScroll}
 use Rattle.axis.specs.declared.wheel.Wheeled.{Wheeled}
 use Rattle.area.specs.Pair.{num, flag}
 use Rattle.area.specs.Layout as At
-use Rattle.area.specs.Frame.{flag_no, number_no, pair_no, pos2_no, maybe_pos2_no, bar_response_no, scroll_target_no, maybe_scroll_target_no}
-use Rattle.area.specs.Frame.{target_request_no, settings_of, host_of, content_of, frame_of}
+use Rattle.area.specs.Frame.{flag_no, number_no, pair_no, pos2_no, maybe_pos2_no, bar_response_no, scroll_target_no, maybe_scroll_target_no, option_no}
+use Rattle.area.specs.Frame.{maybe_scroll_target_no, settings_of, host_of, content_of, frame_of}
 use Rattle.area.specs.Checks.{refusal_of}
 use Rattle.area.specs.Geometry.{pick_of}
 use Rattle.area.specs.Adjust.{request_at, view_of, asked_by, asked_of, asked_at, moved_by, unadjusted, adjusted_by, adjusted_of}
@@ -27,13 +31,10 @@ use Rattle.area.specs.End.{ended_by, finished_of, axis_ended_of, end_of, is_pres
 use Rattle.area.specs.Steps.{begun_at, ended_at}
 use Rattle.area.specs.Moved.{word_on, is_other_than_zero, is_moved_by_words, is_some_pos2, is_drag_heeded, is_press_heeded, is_moved_in, is_moved, MovesAreNamed}
 use Rattle.area.specs.declared.prepared.AxisBefore.{AxisBefore}
-use Rattle.area.specs.declared.frame.Frame.{Frame}
-use Rattle.area.specs.declared.frame.MaybePos2.{MaybePos2}
-use Rattle.area.specs.declared.frame.BarResponse.{BarResponse}
-use Rattle.area.specs.declared.frame.MaybeScrollTarget.{MaybeScrollTarget}
-use Rattle.area.specs.declared.frame.ScrollAnimation.{ScrollAnimation}
+use Rattle.area.specs.Fields.{Frame}
+use Rattle.area.specs.declared.fields.BarResponse.{BarResponse}
+use Rattle.area.specs.declared.fields.ScrollAnimation.{ScrollAnimation}
 use Rattle.area.specs.declared.state.State.{State}
-use Rattle.area.specs.declared.state.StartOffset.{StartOffset}
 use Rattle.area.specs.declared.prepared.AxisMotion.{AxisMotion}
 use Rattle.area.specs.declared.prepared.AxisSpace.{AxisSpace}
 use Rattle.area.specs.declared.prepared.AxisBegun.{AxisBegun}
@@ -76,15 +77,15 @@ unfolding pick_of
 picked_zero t x y p q = either IsZero t x y p q
 
 -- ---- no target and a scroll delta of zero ask for nothing
-abbrev is_some_target : MaybeScrollTarget → Bool
-is_some_target MaybeScrollTarget.Nothing = false
-is_some_target (MaybeScrollTarget.Some t) = true
+abbrev is_some_target : Option ScrollTarget → Bool
+is_some_target None = false
+is_some_target (Some t) = true
 
-asked_zero : (target : MaybeScrollTarget) (delta : Float) (animation : ScrollAnimation) (view : AxisView) (offset : Float)
+asked_zero : (target : Option ScrollTarget) (delta : Float) (animation : ScrollAnimation) (view : AxisView) (offset : Float)
     → is_some_target target ≡ false → IsZero delta
     → IsZero (asked_by target delta animation view offset).delta
-asked_zero MaybeScrollTarget.Nothing delta animation view offset h p = neg_zero delta p
-asked_zero (MaybeScrollTarget.Some t) delta animation view offset h p = absurd (true≢false h)
+asked_zero None delta animation view offset h p = neg_zero delta p
+asked_zero (Some t) delta animation view offset h p = absurd (true≢false h)
 
 unadjusted_by : (m : AxisMotion) (asked : AskedDelta) (enabled animated : Bool) (now : Float) → IsZero asked.delta
     → (adjusted_by m asked enabled animated now).had_explicit_scroll_adjustment ≡ false
@@ -98,7 +99,7 @@ unadjusted_by m asked enabled animated now p =
 record IsQuiet (f : Frame) (d : ℕ) : Type 0 where
   pub undragged : f.host.dragged ≡ false
   pub unpressed : is_some_pos2 (get_or f.host.bars d no_response).press ≡ false
-  pub untargeted : is_some_target (request_at f.content.targets d).target ≡ false
+  pub untargeted : is_some_target (request_at f.content.targets d) ≡ false
   pub delta : IsZero (num f.content.scroll_delta d)
   pub wheel_x : IsZero (num f.host.smooth_scroll_delta 0)
   pub wheel_y : IsZero (num f.host.smooth_scroll_delta 1)
@@ -128,7 +129,7 @@ quiet_unadjusted : (f : Frame) (d : ℕ) (space : AxisSpace) (m : AxisMotion) �
     → (adjusted_of f d space m).had_explicit_scroll_adjustment ≡ false
 unfolding adjusted_of asked_at asked_of
 quiet_unadjusted f d space m q =
-    let target = (request_at f.content.targets d).target in
+    let target = (request_at f.content.targets d) in
     let delta = num f.content.scroll_delta d in
     unadjusted_by m _ _ _ _ (asked_zero target delta f.content.animation (view_of f d space) m.offset q.untargeted q.delta)
 
@@ -186,18 +187,18 @@ unnamed bytes d h =
     }
 
 no_point : (bytes : List ℕ) (n : ℕ) → flag_no bytes n ≡ false → is_some_pos2 (maybe_pos2_no bytes n) ≡ false
-unfolding maybe_pos2_no
+unfolding option_no
 no_point bytes n h =
-    Test.left (λ (p : MaybePos2). is_some_pos2 p ≡ false) (flag_no bytes n) (MaybePos2.Some (pos2_no bytes (n + 1))) MaybePos2.Nothing h refl
+    Test.left (λ (p : Option Pos2). is_some_pos2 p ≡ false) (flag_no bytes n) (Some (pos2_no bytes (n + 1))) None h refl
 
 no_target_lem : (bytes : List ℕ) (n : ℕ) → flag_no bytes n ≡ false → is_some_target (maybe_scroll_target_no bytes n) ≡ false
-unfolding maybe_scroll_target_no
+unfolding option_no
 no_target_lem bytes n h =
-    Test.left (λ (t : MaybeScrollTarget). is_some_target t ≡ false) (flag_no bytes n)
-    (MaybeScrollTarget.Some (scroll_target_no bytes (n + 1))) MaybeScrollTarget.Nothing h refl
+    Test.left (λ (t : Option ScrollTarget). is_some_target t ≡ false) (flag_no bytes n)
+    (Some (scroll_target_no bytes (n + 1))) None h refl
 
 quiet_x : (bytes : List ℕ) → Unnamed bytes 0 → is_finite (number_no bytes At.wheel_scroll_multiplier) ≡ true → IsQuiet (frame_of bytes) 0
-unfolding frame_of settings_of host_of content_of pair_no bar_response_no target_request_no
+unfolding frame_of settings_of host_of content_of pair_no bar_response_no
 quiet_x bytes u n = record {
   undragged = u.undragged;
   unpressed = no_point bytes (At.bar_x + 2) u.unpressed;
@@ -210,7 +211,7 @@ quiet_x bytes u n = record {
 }
 
 quiet_y : (bytes : List ℕ) → Unnamed bytes 1 → is_finite (number_no bytes (At.wheel_scroll_multiplier + 1)) ≡ true → IsQuiet (frame_of bytes) 1
-unfolding frame_of settings_of host_of content_of pair_no bar_response_no target_request_no
+unfolding frame_of settings_of host_of content_of pair_no bar_response_no
 quiet_y bytes u n = record {
   undragged = u.undragged;
   unpressed = no_point bytes (At.bar_y + 2) u.unpressed;
@@ -257,20 +258,20 @@ pub stays_by_words_y : StaysOnEnd (λ _ _. is_moved_by_words) 1
 stays_by_words_y = by_words 1 moves_are_named.1 stays_y
 
 -- ---- and on neither axis is a press refused with 7
-press_unblocked : (m : AxisMotion) (t : Track) (handle : Rangef) (stored : StartOffset) (p : MaybePos2) (d : ℕ) → is_some_pos2 p ≡ false
+press_unblocked : (m : AxisMotion) (t : Track) (handle : Rangef) (stored : Option Float) (p : Option Pos2) (d : ℕ) → is_some_pos2 p ≡ false
     → (press_of m t handle stored p d).is_press_blocked ≡ false
 unfolding press_of
-press_unblocked m t handle stored MaybePos2.Nothing d h = refl
-press_unblocked m t handle stored (MaybePos2.Some p) d h = absurd (true≢false h)
+press_unblocked m t handle stored None d h = refl
+press_unblocked m t handle stored (Some p) d h = absurd (true≢false h)
 
-turn_unblocked : (m : AxisMotion) (t : Track) (show_factor : Float) (rubber_banding : Bool) (stored : StartOffset) (response : BarResponse) (d : ℕ)
+turn_unblocked : (m : AxisMotion) (t : Track) (show_factor : Float) (rubber_banding : Bool) (stored : Option Float) (response : BarResponse) (d : ℕ)
     → is_some_pos2 response.press ≡ false → (turn_bar m t show_factor rubber_banding stored response d).is_press_blocked ≡ false
 unfolding turn_bar shown_bar
 turn_unblocked m t show_factor rubber_banding stored response d h =
     either (λ (b : Barred). b.is_press_blocked ≡ false) (eq show_factor F32.zero) (hidden_bar m stored) (shown_bar m t rubber_banding stored response d) refl
     (press_unblocked m t (handle_of t m.offset) stored response.press d h)
 
-bar_unblocked : (f : Frame) (d e : ℕ) (space : BarSpace) (show_scroll rubber_banding : Bool) (stored : StartOffset) (m : AxisMotion)
+bar_unblocked : (f : Frame) (d e : ℕ) (space : BarSpace) (show_scroll rubber_banding : Bool) (stored : Option Float) (m : AxisMotion)
     → is_some_pos2 (get_or f.host.bars d no_response).press ≡ false → (bar_of f d e space show_scroll rubber_banding stored m).is_press_blocked ≡ false
 unfolding bar_of
 bar_unblocked f d e space show_scroll rubber_banding stored m h = turn_unblocked m _ _ rubber_banding stored (get_or f.host.bars d no_response) d h

@@ -13,8 +13,8 @@ use Rattle.area.specs.Steps.{Fed, fed_frame, step_at, answers_from, state_from, 
 use Rattle.area.specs.SettlingRun.{is_no_increment, run_refusal, settle_refusal, advanced, ended_with, counted, settle_from, settle_under}
 use Rattle.area.specs.SettlingRun.{frames_from, frames_of, last_refusal, settled_by, is_inside, FramesInside, RunHolds}
 use Rattle.area.specs.declared.state.State.{State}
-use Rattle.area.specs.declared.outcome.Answer.{Answer}
-use Rattle.area.specs.declared.settling_run.Settled.{Settled}
+use Rattle.area.specs.Outcome.{Answer}
+use Rattle.area.specs.SettlingRun.{Settled}
 use Rattle.numbers.proofs.TestLaws.{fails_right}
 use Rattle.area.proofs.CallLaws.{step_is_call, refusal_keeps, twelve, accepted}
 use Rattle.area.proofs.SettlingRunLaws.{passes_first}

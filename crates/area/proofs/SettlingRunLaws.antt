@@ -11,8 +11,8 @@ use Rattle.area.specs.Call.{call_under}
 use Rattle.area.specs.Steps.{is_accepted}
 use Rattle.area.specs.SettlingRun.{run_refusal, settle_refusal, advanced, ended_with, counted, settle_from}
 use Rattle.area.specs.declared.state.State.{State}
-use Rattle.area.specs.declared.settling_run.Settled.{Settled}
-use Rattle.area.specs.declared.outcome.Answer.{Answer}
+use Rattle.area.specs.SettlingRun.{Settled}
+use Rattle.area.specs.Outcome.{Answer}
 use Rattle.numbers.proofs.TestLaws.{both_zero}
 use Rattle.area.proofs.CallLaws.{whole_if_passed}
 
@@ -120,3 +120,9 @@ module _ (table : Table) (increment : Float) (limit : ℕ) where
         where
           none : suc n + used ≡ limit → limit ≤ used → ⊥
           none e h = omega arith
+
+  pub finishes_at_limit : (whole : Settled) (used : ℕ) (state : State) (frame : List ℕ) → used ≡ limit → Upto table increment limit whole used state frame
+      → record { refusal = 0; used = limit; state = state } ≡ whole
+  finishes_at_limit whole used state frame e u =
+      let h : limit ≤ used = omega arith in
+      subst (λ (n : ℕ). record { refusal = 0; used = n; state = state } ≡ whole) e (finishes whole used state frame h u)

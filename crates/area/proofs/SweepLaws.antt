@@ -1,19 +1,19 @@
 -- What the functions of the walk need of single words and of options. Assumes nothing.
-use Rattle.std.specs.Prelude.{◌≡◌, ℕ, ◌+◌, ◌<◌, Bool, true, false, ◌&&◌, eqb, List, [], ◌∷◌}
+use Rattle.std.specs.Prelude.{◌≡◌, ℕ, ◌+◌, ◌*◌, ◌<◌, ◌≤◌, Bool, true, false, ◌&&◌, ◌==◌, eqb, List, [], ◌∷◌, ◌++◌, length}
 use mathlib.Core.Path.{refl, sym, ap, ◌∙◌}
+use native.Mathlib.Nat.{add-zero}
 use native.Mathlib.Omega.{arith}
-use borrow.Author.Tests.{ne_eqb}
-use Rattle.area.specs.Layout.{Row, flag, end_of, inside, option_at, time_high}
+use borrow.Author.Tests.{le-ltb, lt-ltb, ne_eqb}
+use Rattle.area.specs.Layout.{Row, flag, end_of, inside, option_at}
 use Rattle.area.specs.Frame.{word_no, flag_no, number_no}
 use Rattle.area.specs.Checks.{is_heeded, shows2, shows3, shows4, shows5, is_shown, lowest_where}
-use Rattle.area.specs.Marks.{shown_by, shown_of, kept_with, sweep_rows}
-use Rattle.numbers.proofs.TestLaws.{or_right, neither, and_left, and_right}
+use Rattle.refusals.specs.Refusal.{number_of}
+use Rattle.refusals.specs.declared.Refusal.{Refusal}
+use Rattle.area.specs.Marks.{Sweeping, Apart, are_outside, lower_mark, shown_by, shown_of, kept_at, kept_with, sweep_rows, counted_of, with_mark, keeping, keeping_rows, taking}
+use Rattle.area.proofs.MarkLaws.{some_number}
+use Rattle.numbers.proofs.TestLaws.{either, or_right, neither, and_left, and_right}
 
 -- ---- a word outside options, by its value
-
--- the row is of no option, has no start and is not the time's high word
-abbrev pub Apart : Row → Type 0
-Apart r = (eqb r.option 0 ≡ true) × (eqb r.start 0 ≡ true) × (eqb r.how time_high ≡ false)
 
 pub shown_word : (r : Row) (s : List ℕ) (n : ℕ) → Apart r → shown_by r s n ≡ shown_of r (word_no s n) 0
 unfolding shown_by shown_of is_heeded is_shown shows2 shows3 shows4 shows5 number_no
@@ -22,6 +22,33 @@ shown_word r s n (outside, whole, single) = rw (outside, whole, single)
 pub shown_end : (s : List ℕ) (n m : ℕ) → 0 < m → shown_by (end_of m) s n ≡ shown_of (end_of 1) (word_no s n) (word_no s m)
 unfolding shown_by shown_of is_heeded is_shown shows2 shows3 shows4 shows5 number_no
 shown_end s n m some = rw (ne_eqb m 0 (λ z. omega (arith, z)))
+
+-- a number that is shown by a word's value, or by an end's and its start's, is shown by the word
+pub word_shows : (r : Row) (s : List ℕ) (n w k : ℕ) → Apart r → k ≡ shown_of r w 0 → w ≡ word_no s n → k ≡ shown_by r s n
+word_shows r s n w k alone shows word = shows ∙ rw word (sym (shown_word r s n alone))
+
+pub end_shows : (s : List ℕ) (n m w start k : ℕ) → 0 < m → k ≡ shown_of (end_of 1) w start → w ≡ word_no s n → start ≡ word_no s m →
+    k ≡ shown_by (end_of m) s n
+end_shows s n m w start k some shows word begin = shows ∙ rw (word, begin) (sym (shown_end s n m some))
+
+-- ---- the walk with one word more
+pub keeping_none : (w : Sweeping) (n : ℕ) → w ≡ keeping w n 0
+unfolding kept_with
+keeping_none w n = refl
+
+pub keeping_after : (w : Sweeping) (n k : ℕ) → w.last < n → w ≡ keeping w n k
+unfolding kept_with kept_at
+keeping_after w n k l = rw (lt-ltb w.last n l) (ap (with_mark w) (either (λ (m : ℕ). w.walk.mark ≡ m) (k == 0) w.walk.mark w.walk.mark refl refl))
+
+pub keeping_refusal : (w : Sweeping) (n : ℕ) (r : Refusal) (mark : ℕ) → n ≤ w.last → mark ≡ lower_mark (number_of r * 128 + n) w.walk.mark →
+    with_mark w mark ≡ keeping w n (number_of r)
+unfolding kept_with kept_at lower_mark
+keeping_refusal w n r mark l mark_is = rw (mark_is, some_number r, le-ltb w.last n l)
+
+-- with the words of a field, and their count
+pub taking_is : (w v : Sweeping) (n k count : ℕ) (rows : List Row) → v ≡ keeping_rows w n rows → k ≡ length rows →
+    count ≡ counted_of v.walk.count v.last k → record { bytes = v.bytes; last = v.last; walk = record { count = count; mark = v.walk.mark } } ≡ taking w n rows
+taking_is w v n k count rows v_is k_is count_is = rw (count_is, v_is, k_is)
 
 -- ---- the words of an option whose flag is word m
 
@@ -66,21 +93,33 @@ module _ (s : List ℕ) (last m : ℕ) where
       ∙ option_off rows (n + 1) mark some off
 
   -- an option's flag, then its words
-  flag_is : (mark word own : ℕ) → word ≡ word_no s m → own ≡ kept_with mark last m (shown_of flag word 0) → own ≡ kept_with mark last m (shown_by flag s m)
-  flag_is mark word own word_is own_is = own_is ∙ rw (word_is, shown_word flag s m (refl, refl, refl))
-
-  pub with_on : (rows : List Row) (mark word own r : ℕ) → word ≡ word_no s m → own ≡ kept_with mark last m (shown_of flag word 0) →
-      eqb word 1 ≡ true → all_heeded s rows ≡ true →
-      r ≡ sweep_rows s last (m + 1) rows own → r ≡ sweep_rows s last m (flag ∷ option_at m rows) mark
+  pub with_on : (rows : List Row) (mark : ℕ) → word_no s m == 1 ≡ true → all_heeded s rows ≡ true →
+      sweep_rows s last (m + 1) rows (kept_with mark last m (shown_by flag s m)) ≡ sweep_rows s last m (flag ∷ option_at m rows) mark
   unfolding sweep_rows flag_no
-  with_on rows mark word own r word_is own_is on heeded q =
-      q
-      ∙ sym (option_on rows (m + 1) own (sym (ap (λ (w : ℕ). eqb w 1) word_is) ∙ on) heeded)
-      ∙ ap (sweep_rows s last (m + 1) (option_at m rows)) (flag_is mark word own word_is own_is)
+  with_on rows mark on heeded = sym (option_on rows (m + 1) _ on heeded)
 
-  pub with_off : (rows : List Row) (mark word own : ℕ) → word ≡ word_no s m → own ≡ kept_with mark last m (shown_of flag word 0) →
-      0 < m → eqb word 1 ≡ false → own ≡ sweep_rows s last m (flag ∷ option_at m rows) mark
+  pub with_off : (rows : List Row) (mark : ℕ) → 0 < m → word_no s m == 1 ≡ false →
+      kept_with mark last m (shown_by flag s m) ≡ sweep_rows s last m (flag ∷ option_at m rows) mark
   unfolding sweep_rows flag_no
-  with_off rows mark word own word_is own_is some off =
-      sym (option_off rows (m + 1) own (ne_eqb m 0 (λ z. omega (arith, z))) (sym (ap (λ (w : ℕ). eqb w 1) word_is) ∙ off))
-      ∙ ap (sweep_rows s last (m + 1) (option_at m rows)) (flag_is mark word own word_is own_is)
+  with_off rows mark some off = sym (option_off rows (m + 1) _ (ne_eqb m 0 (λ z. omega (arith, z))) off)
+
+-- ---- the rows of a field
+
+-- rows outside options are heeded
+pub heeded_outside : (s : List ℕ) (rows : List Row) → are_outside rows ≡ true → all_heeded s rows ≡ true
+unfolding is_heeded
+heeded_outside s [] outside = refl
+heeded_outside s (r ∷ rows) outside =
+    let here = and_left (r.option == 0) (are_outside rows) outside in
+    rw (here, heeded_outside s rows (and_right (r.option == 0) (are_outside rows) outside))
+
+-- one field after the other
+pub sweep-append : (s : List ℕ) (last n : ℕ) (xs ys : List Row) (mark : ℕ) →
+    sweep_rows s last n (xs ++ ys) mark ≡ sweep_rows s last (n + length xs) ys (sweep_rows s last n xs mark)
+unfolding sweep_rows
+sweep-append s last n [] ys mark = rw add-zero
+sweep-append s last n (r ∷ xs) ys mark = sweep-append s last (n + 1) xs ys _ ∙ ap (λ (m : ℕ). sweep_rows s last m ys (sweep_rows s last (n + 1) xs (kept_with mark last n (shown_by r s n)))) (omega arith)
+
+pub keeping-append : (w : Sweeping) (n k : ℕ) (xs ys : List Row) → length xs ≡ k →
+    keeping_rows (keeping_rows w n xs) (n + k) ys ≡ keeping_rows w n (xs ++ ys)
+keeping-append w n k xs ys e = ap (with_mark w) (rw (← e) (sym (sweep-append w.bytes w.last n xs ys w.walk.mark)))

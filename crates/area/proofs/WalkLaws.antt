@@ -5,14 +5,11 @@ use mathlib.Core.Path.{refl, sym, ap, ◌∙◌, subst}
 use native.Mathlib.Nat.{add-zero, zero-add, add-suc, suc-add, add_assoc, sub-zero}
 use native.Mathlib.Omega.{arith}
 use borrow.Author.Tests.{eqb-true, eqb-false, not-false, ne_eqb, eq-eqb, ltb-true, ltb-false, lt-ltb, le-ltb, leb-true, leb-false, le-leb, lt-leb}
-use Rattle.area.specs.declared.sweep.Walk.{Walk}
-use Rattle.area.specs.Layout.{Row, row_no}
-use Rattle.area.specs.Frame.{word_no}
+use Rattle.area.specs.Layout.{row_no}
 use Rattle.area.specs.Checks.{shows_no, any_shows, lowest_where, frame_refusal}
 use Rattle.area.specs.Sweep.{lowest_of, words_up_to, swept_of}
-use Rattle.area.specs.Marks.{shown_by, shown_of, kept_at, kept_with, sweep_from, counted_of, walk_from, walk_of}
+use Rattle.area.specs.Marks.{Sweeping, taking_words, shown_by, kept_at, kept_with, sweep_from, counted_of, walk_from, walk_of}
 use Rattle.numbers.proofs.TestLaws.{either}
-use Rattle.area.proofs.SweepLaws.{Apart, shown_word}
 
 -- ---- the lowest number with one word more
 
@@ -204,39 +201,15 @@ counted_is (suc n) = rw (lt-leb (suc n) 0 (omega arith), sub-zero)
 
 -- ---- field after field
 
--- one word outside options
-pub one_word : (s : List ℕ) (last n : ℕ) (r : Row) (mark word kept : ℕ) → row_no n ≡ r → Apart r → word ≡ word_no s n →
-    kept ≡ kept_with mark last n (shown_of r word 0) → kept ≡ sweep_from s last n 1 mark
-unfolding sweep_from
-one_word s last n r mark word kept row alone word_is kept_is =
-    kept_is ∙ ap (kept_with mark last n) (ap (λ (w : ℕ). shown_of r w 0) word_is ∙ sym (shown_word r s n alone) ∙ ap (λ (q : Row). shown_by q s n) (sym row))
-
 sweep_more : (s : List ℕ) (last n k j mark : ℕ) → sweep_from s last (n + k) j (sweep_from s last n k mark) ≡ sweep_from s last n (k + j) mark
 unfolding sweep_from
 sweep_more s last n zero j mark = rw (add-zero, zero-add)
 sweep_more s last n (suc k) j mark = rw (add-suc, ← suc-add n k, suc-add k j) (sweep_more s last (suc n) k j (kept_with mark last n (shown_no s n)))
 
-pub no_field : (s : List ℕ) (last n : ℕ) (w : Walk) → w ≡ walk_from s last n 0 w
-unfolding walk_from sweep_from counted_of
-no_field s last n w = go (leb last w.count) refl
-  where
-    go : (b : Bool) → leb last w.count ≡ b → w ≡ walk_from s last n 0 w
-    go true e = rw e
-    go false e = rw (e, le-ltb (last - w.count) 0 (omega arith), add-zero)
-
--- a part of j words after k
-pub part : (s : List ℕ) (last n k j : ℕ) (w before after : Walk) → before ≡ walk_from s last n k w →
-    after ≡ walk_from s last (n + k) j before → after ≡ walk_from s last n (k + j) w
+-- j words after k
+pub part : (w before after : Sweeping) (n k j : ℕ) → before ≡ taking_words w n k → after ≡ taking_words before (n + k) j → after ≡ taking_words w n (k + j)
 unfolding walk_from
-part s last n k j w before after before_is after_is = after_is ∙ rw (before_is, counted_more, sweep_more)
-
--- a field of j words after k
-pub field : (s : List ℕ) (last n k j : ℕ) (w before after : Walk) (mark : ℕ) → before ≡ walk_from s last n k w →
-    mark ≡ sweep_from s last (n + k) j before.mark → after ≡ record { count = counted_of before.count last j; mark = mark } →
-    after ≡ walk_from s last n (k + j) w
-unfolding walk_from
-field s last n k j w before after mark before_is mark-is after_is =
-    part s last n k j w before after before_is (after_is ∙ ap (λ (m : ℕ). record { count = counted_of before.count last j; mark = m }) mark-is)
+part w before after n k j before_is after_is = after_is ∙ rw (before_is, counted_more, sweep_more)
 
 -- ---- the number and the word of a mark
 kept_is : (low w : ℕ) → w < 128 → (low * 128 + w) / 128 ≡ low

@@ -1,6 +1,8 @@
 -- Every turn of the wheel in a frame that passes checks 1 to 5 is one that the law of the wheel covers. Assumes nothing.
 use Rattle.std.specs.Prelude.{◌≡◌, ℕ, zero, suc, ◌<◌, Bool, true, false, ◌&&◌, List}
-use mathlib.Core.Path.{subst}
+use mathlib.Core.Path.{subst, sym, ap, ◌∙◌}
+use Rattle.numbers.specs.Axis.{index_of}
+use Rattle.numbers.specs.declared.axis.Axis.{Axis}
 use native.Mathlib.Omega.{arith}
 use lib.Ieee.{Float, binary32, neg, le}
 use Rattle.numbers.specs.F32.{plus, times}
@@ -22,7 +24,7 @@ use Rattle.area.specs.AxisPhysics.{physics_of}
 use Rattle.area.specs.Frame.{number_no, pair_no, host_of, settings_of, frame_of}
 use Rattle.area.specs.Checks.{frame_refusal}
 use Rattle.area.specs.WheelTurn.{wheel_scroll_of, wheel_physics_of, taken, untaken, unheard, turned_by, turned_of, left_of, TurnHolds}
-use Rattle.area.specs.declared.frame.Frame.{Frame}
+use Rattle.area.specs.Fields.{Frame}
 use Rattle.area.specs.declared.prepared.AxisBefore.{AxisBefore}
 use Rattle.area.specs.declared.prepared.AxisMotion.{AxisMotion}
 use Rattle.area.specs.declared.prepared.AxisSpace.{AxisSpace}
@@ -83,3 +85,17 @@ turn_holds bytes d before space extent wheel m rubber_banding l h turns =
     Test.taken (λ (t : Turned). WheelHolds physics m.offset m.vel scroll bounced (left_of t)) (wheel.heard && flag f.settings.direction_enabled d)
     (turned_by physics scroll m rubber_banding bounced) (unheard m rubber_banding bounced) turns
     (turned_holds physics scroll m rubber_banding bounced (bounds_ordered f d before space extent, delta_finite bytes d wheel.always_scroll_enabled_direction h l))
+
+-- so of what a turn leaves that equals it, seen through any bytes that the frame stands for
+pub turn_holds_of : (bytes : List ℕ) (f : Frame) (d : Axis) (before : AxisBefore) (space : AxisSpace) (extent : AxisExtent) (wheel : WheelHeard)
+    → (m : AxisMotion) (rubber_banding : Bool) (t : Turned) → f ≡ frame_of bytes
+    → t ≡ turned_of f (index_of d) before space extent wheel m rubber_banding
+    → TurnHolds bytes (index_of d) before space extent wheel m t
+turn_holds_of bytes f d before space extent wheel m rubber_banding t seen e =
+    let is = e ∙ ap (λ (g : Frame). turned_of g (index_of d) before space extent wheel m rubber_banding) seen in
+    subst (TurnHolds bytes (index_of d) before space extent wheel m) (sym is)
+    (turn_holds bytes (index_of d) before space extent wheel m rubber_banding (index_below d))
+  where
+    index_below : (a : Axis) → index_of a < 2
+    index_below Axis.X = omega arith
+    index_below Axis.Y = omega arith

@@ -1,4 +1,6 @@
 -- Prepared::end, "targets and deltas", on one axis: the delta that the content asks for, and what it does to the motion.
+use Rattle.std.specs.Prelude.{Option, Some, None}
+use Rattle.area.specs.declared.state.ScrollingToTarget.{ScrollingToTarget}
 use Rattle.std.specs.Prelude.{ℕ, Bool, true, false, cond, not, ◌&&◌, List, slice_index_or}
 use Rattle.std.specs.Prelude.{Float}
 use Rattle.std.specs.Float.{binary64}
@@ -12,14 +14,9 @@ use Rattle.numbers.specs.Shape.{factor_of}
 use Rattle.numbers.specs.declared.shape.Align.{Align}
 use Rattle.numbers.specs.declared.range.Rangef.{Rangef}
 use Rattle.area.specs.Pair.{num, flag}
-use Rattle.area.specs.declared.frame.Frame.{Frame}
-use Rattle.area.specs.declared.frame.MaybeAlign.{MaybeAlign}
-use Rattle.area.specs.declared.frame.MaybeScrollTarget.{MaybeScrollTarget}
-use Rattle.area.specs.declared.frame.ScrollAnimation.{ScrollAnimation}
-use Rattle.area.specs.declared.frame.ScrollTarget.{ScrollTarget}
-use Rattle.area.specs.declared.frame.TargetRequest.{TargetRequest}
-use Rattle.area.specs.declared.state.MaybeTarget.{MaybeTarget}
-use Rattle.area.specs.declared.state.OffsetTarget.{OffsetTarget}
+use Rattle.area.specs.Fields.{Frame}
+use Rattle.area.specs.declared.fields.ScrollAnimation.{ScrollAnimation}
+use Rattle.area.specs.declared.fields.ScrollTarget.{ScrollTarget}
 use Rattle.area.specs.declared.prepared.AxisMotion.{AxisMotion}
 use Rattle.area.specs.declared.prepared.AxisSpace.{AxisSpace}
 use Rattle.area.specs.declared.adjust.Adjusted.{Adjusted}
@@ -27,11 +24,11 @@ use Rattle.area.specs.declared.adjust.AskedDelta.{AskedDelta}
 use Rattle.area.specs.declared.adjust.AxisView.{AxisView}
 
 -- "a target option" that is off
-abbrev pub no_request : TargetRequest
-no_request = record { target = MaybeScrollTarget.Nothing }
+abbrev pub no_request : Option ScrollTarget
+no_request = None
 
 -- scroll_target[d]
-abbrev pub request_at : List TargetRequest → ℕ → TargetRequest
+abbrev pub request_at : List (Option ScrollTarget) → ℕ → Option ScrollTarget
 request_at v d = slice_index_or v d no_request
 
 -- ---- the delta that a target asks for
@@ -75,9 +72,9 @@ into_view_delta range view =
     zero)
 
 -- "if let Some(align) = align", and its else
-abbrev pub delta_by : MaybeAlign → Rangef → AxisView → Float → Float
-delta_by (MaybeAlign.Some align) range view offset = aligned_delta align range view offset
-delta_by MaybeAlign.Nothing range view offset = into_view_delta range view
+abbrev pub delta_by : Option Align → Rangef → AxisView → Float → Float
+delta_by (Some align) range view offset = aligned_delta align range view offset
+delta_by None range view offset = into_view_delta range view
 
 -- "let delta_update"
 unfoldable pub delta_update : ScrollTarget → AxisView → Float → Float
@@ -95,13 +92,13 @@ asked_by_target target scroll_delta view offset =
     record { delta = plus (neg scroll_delta) (delta_update target view offset); animation = target.animation }
 
 -- "if let Some(target) = scroll_target"
-abbrev pub asked_by : MaybeScrollTarget → Float → ScrollAnimation → AxisView → Float → AskedDelta
-asked_by MaybeScrollTarget.Nothing scroll_delta scroll_animation view offset = asked_by_delta scroll_delta scroll_animation
-asked_by (MaybeScrollTarget.Some target) scroll_delta scroll_animation view offset = asked_by_target target scroll_delta view offset
+abbrev pub asked_by : Option ScrollTarget → Float → ScrollAnimation → AxisView → Float → AskedDelta
+asked_by None scroll_delta scroll_animation view offset = asked_by_delta scroll_delta scroll_animation
+asked_by (Some target) scroll_delta scroll_animation view offset = asked_by_target target scroll_delta view offset
 
 -- (delta, animation)
-unfoldable pub asked_of : TargetRequest → Float → ScrollAnimation → AxisView → Float → AskedDelta
-asked_of request scroll_delta scroll_animation view offset = asked_by request.target scroll_delta scroll_animation view offset
+unfoldable pub asked_of : Option ScrollTarget → Float → ScrollAnimation → AxisView → Float → AskedDelta
+asked_of request scroll_delta scroll_animation view offset = asked_by request scroll_delta scroll_animation view offset
 
 -- the delta and animation on axis d, from where the offset is
 unfoldable pub asked_at : Frame → ℕ → AxisSpace → Float → AskedDelta
@@ -111,21 +108,21 @@ asked_at f d space offset =
 -- ---- what a delta does
 
 -- "Some(ScrollingToTarget { .. })"
-abbrev pub toward : Float → Float → Float → OffsetTarget
-toward start end target_offset = record { target = MaybeTarget.Toward (record { start = start; end = end; target_offset = target_offset }) }
+abbrev pub toward : Float → Float → Float → Option ScrollingToTarget
+toward start end target_offset = (Some (record { start = start; end = end; target_offset = target_offset }))
 
 -- "let animation_duration"
 abbrev pub animation_duration : Float → ScrollAnimation → Float
 animation_duration delta animation = clamp_of (over (abs_of delta) animation.points_per_second) animation.duration.min animation.duration.max
 
 -- a target under way keeps its time span: "we don't want to reset the animation"; a new one runs from "now" to "now + animation_duration as f64"
-abbrev pub retargeted : MaybeTarget → Float → Float → ScrollAnimation → Float → OffsetTarget
-retargeted (MaybeTarget.Toward to) target_offset delta animation now = toward to.start to.end target_offset
-retargeted MaybeTarget.Nothing target_offset delta animation now = toward now (add binary64 now (widen_of (animation_duration delta animation))) target_offset
+abbrev pub retargeted : Option ScrollingToTarget → Float → Float → ScrollAnimation → Float → Option ScrollingToTarget
+retargeted (Some to) target_offset delta animation now = toward to.start to.end target_offset
+retargeted None target_offset delta animation now = toward now (add binary64 now (widen_of (animation_duration delta animation))) target_offset
 
 -- "else if let Some(animation) = &mut state.offset_target[d]", and its else
-unfoldable pub retarget_of : OffsetTarget → Float → Float → ScrollAnimation → Float → OffsetTarget
-retarget_of offset_target target_offset delta animation now = retargeted offset_target.target target_offset delta animation now
+unfoldable pub retarget_of : Option ScrollingToTarget → Float → Float → ScrollAnimation → Float → Option ScrollingToTarget
+retarget_of offset_target target_offset delta animation now = retargeted offset_target target_offset delta animation now
 
 -- "let target_offset = state.offset[d] + delta"
 abbrev pub target_offset_of : AxisMotion → AskedDelta → Float

@@ -1,4 +1,5 @@
 -- One turn of the bar loop, after the sticking.
+use Rattle.std.specs.Prelude.{Option, Some, None}
 use Rattle.std.specs.Prelude.{ℕ, Bool, false, cond, ◌||◌, slice_index_or}
 use Rattle.std.specs.Prelude.{Float}
 use Rattle.std.specs.Float.Ieee.{eq, ne}
@@ -9,18 +10,15 @@ use Rattle.area.specs.Geometry.{pick_of}
 use Rattle.area.specs.Handle.{show_factor_of, track_of, handle_of, handle_rect_of}
 use Rattle.area.specs.Press.{press_of}
 use Rattle.area.specs.declared.bar.Barred.{Barred}
-use Rattle.area.specs.declared.frame.BarResponse.{BarResponse}
-use Rattle.area.specs.declared.frame.Frame.{Frame}
-use Rattle.area.specs.declared.frame.MaybePos2.{MaybePos2}
+use Rattle.area.specs.declared.fields.BarResponse.{BarResponse}
+use Rattle.area.specs.Fields.{Frame}
 use Rattle.area.specs.declared.handle.BarSpace.{BarSpace}
 use Rattle.area.specs.declared.handle.Track.{Track}
 use Rattle.area.specs.declared.prepared.AxisMotion.{AxisMotion}
-use Rattle.area.specs.declared.state.MaybeRect.{MaybeRect}
-use Rattle.area.specs.declared.state.StartOffset.{StartOffset}
 
 -- a response to nothing
 abbrev pub no_response : BarResponse
-no_response = record { hovered = false; dragged = false; press = MaybePos2.Nothing }
+no_response = record { hovered = false; dragged = false; press = None }
 
 -- state.offset[d] = scroll_bounds(max_offset[d]).clamp(state.offset[d]); vel 0.0 if that is not unbounded_offset
 abbrev pub bounded_motion : AxisMotion → Float → AxisMotion
@@ -39,7 +37,7 @@ bound_motion_of m rubber_banding max_offset = cond rubber_banding m (bounded_mot
 
 -- the rest of the turn, to "Avoid frame-delay by calculating a new handle rect"; "the second calculation, also where the Rust finds
 -- the bar invisible"
-unfoldable pub shown_bar : AxisMotion → Track → Bool → StartOffset → BarResponse → ℕ → Barred
+unfoldable pub shown_bar : AxisMotion → Track → Bool → Option Float → BarResponse → ℕ → Barred
 shown_bar m t rubber_banding stored response d =
     let pressed = press_of m t (handle_of t m.offset) stored response.press d in
     let motion = bound_motion_of pressed.motion rubber_banding t.max_offset in
@@ -47,27 +45,27 @@ shown_bar m t rubber_banding stored response d =
       motion = motion;
       press = pressed.press;
       scroll_bar_interaction = response.hovered || response.dragged;
-      handle = record { rect = MaybeRect.Some (handle_rect_of (handle_of t motion.offset) t.cross d) };
+      handle = (Some (handle_rect_of (handle_of t motion.offset) t.cross d));
       is_press_blocked = pressed.is_press_blocked;
     }
 
 -- state.scroll_bar_interaction[d] = false; continue
-abbrev pub hidden_bar : AxisMotion → StartOffset → Barred
+abbrev pub hidden_bar : AxisMotion → Option Float → Barred
 hidden_bar m stored = record {
   motion = m;
   press = stored;
   scroll_bar_interaction = false;
-  handle = record { rect = MaybeRect.Nothing };
+  handle = None;
   is_press_blocked = false;
 }
 
 -- if show_factor == 0.0
-unfoldable pub turn_bar : AxisMotion → Track → Float → Bool → StartOffset → BarResponse → ℕ → Barred
+unfoldable pub turn_bar : AxisMotion → Track → Float → Bool → Option Float → BarResponse → ℕ → Barred
 turn_bar m t show_factor rubber_banding stored response d =
     cond (eq show_factor zero) (hidden_bar m stored) (shown_bar m t rubber_banding stored response d)
 
 -- for d in 0..2, after the sticking; e is 1 - d
-unfoldable pub bar_of : Frame → ℕ → ℕ → BarSpace → Bool → Bool → StartOffset → AxisMotion → Barred
+unfoldable pub bar_of : Frame → ℕ → ℕ → BarSpace → Bool → Bool → Option Float → AxisMotion → Barred
 bar_of f d e space show_scroll rubber_banding stored m =
     let show_factor = show_factor_of show_scroll (num f.host.bar_factors d) (num f.host.opening_factors d) in
     turn_bar m (track_of f d e space show_factor) show_factor rubber_banding stored (slice_index_or f.host.bars d no_response) d

@@ -1,4 +1,5 @@
 -- ScrollArea::begin, as far as document 01 keeps it, under the table that its steps use.
+use Rattle.std.specs.Prelude.{Option, Some, None}
 use Rattle.std.specs.Prelude.{◌≡◌, ℕ, Bool, true, false, ◌&&◌, ◌||◌, [], ◌∷◌}
 use Rattle.std.specs.Prelude.{refl, Float}
 use Rattle.std.specs.Float.{binary32}
@@ -11,9 +12,9 @@ use Rattle.numbers.specs.declared.shape.Pos2.{Pos2}
 use Rattle.numbers.specs.declared.shape.Rect.{Rect}
 use Rattle.axis.specs.declared.physics.AxisPhysics.{AxisPhysics}
 use Rattle.axis.specs.declared.wheel.WheelSource.{WheelSource}
-use Rattle.area.specs.declared.frame.DragScroll.{DragScroll}
-use Rattle.area.specs.declared.frame.Host.{Host}
-use Rattle.area.specs.declared.frame.Frame.{Frame}
+use Rattle.area.specs.declared.fields.DragScroll.{DragScroll}
+use Rattle.area.specs.Fields.{Host}
+use Rattle.area.specs.Fields.{Frame}
 use Rattle.area.specs.declared.state.State.{State}
 use Rattle.area.specs.declared.prepared.AxisSpace.{AxisSpace}
 use Rattle.area.specs.declared.prepared.AxisMotion.{AxisMotion}
@@ -60,12 +61,12 @@ has_background_drag f s =
     && is_rect_stored s.interact_rect
 
 -- "i.scroll_source()) == Some(MouseWheelSource::Trackpad)"
-unfoldable pub fingers_on_trackpad : WheelSource → Bool
-fingers_on_trackpad WheelSource.Nothing = false
-fingers_on_trackpad WheelSource.Unknown = false
-fingers_on_trackpad WheelSource.Wheel = false
-fingers_on_trackpad WheelSource.Trackpad = true
-fingers_on_trackpad WheelSource.Momentum = false
+unfoldable pub fingers_on_trackpad : Option WheelSource → Bool
+fingers_on_trackpad None = false
+fingers_on_trackpad (Some WheelSource.Unknown) = false
+fingers_on_trackpad (Some WheelSource.Wheel) = false
+fingers_on_trackpad (Some WheelSource.Trackpad) = true
+fingers_on_trackpad (Some WheelSource.Momentum) = false
 
 -- "let hold_overscroll = fingers_on_trackpad && ui.rect_contains_pointer(inner_rect)"
 unfoldable pub hold_overscroll : Host → Rect → Bool

@@ -8,8 +8,8 @@ use Rattle.area.specs.End.{end_of, is_press_blocked}
 use Rattle.area.specs.PutOut.{answer_of}
 use Rattle.area.specs.Outcome.{refused_of, is_answer_finite}
 use Rattle.area.specs.declared.state.State.{State}
-use Rattle.area.specs.declared.frame.Frame.{Frame}
-use Rattle.area.specs.declared.outcome.Answer.{Answer}
+use Rattle.area.specs.Fields.{Frame}
+use Rattle.area.specs.Outcome.{Answer}
 
 unfoldable pub run_of : Table → State → Frame → Answer
 run_of table state frame =

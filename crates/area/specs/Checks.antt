@@ -1,4 +1,7 @@
 -- "Turned back, in checking order", 1 to 6, and document 02's 12. "For a frame, checks 1 to 5 read the frame alone, never the state."
+use Rattle.std.specs.Prelude.{Option, Some, None}
+use Rattle.numbers.specs.declared.shape.Rect.{Rect}
+use Rattle.area.specs.declared.state.ScrollingToTarget.{ScrollingToTarget}
 use Rattle.std.specs.Prelude.{ℕ, zero, suc, ◌-◌, Bool, true, false, cond, not, ◌&&◌, ◌||◌, List, length, ◌==◌, from_bits, nat_lt, slice_index_or}
 use Rattle.std.specs.Prelude.{Float}
 use Rattle.std.specs.Float.{binary64}
@@ -6,13 +9,9 @@ use Rattle.std.specs.Float.Ieee.{lt, le, ne}
 use Rattle.numbers.specs.F32.{over, one}
 use Rattle.numbers.specs.F32 as F32
 use Rattle.numbers.specs.Scalar.{is_finite}
+use Rattle.numbers.specs.Finite.{option_finite, pair_finite, rect_finite}
 use Rattle.axis.specs.Limits.{exceeds_limit, is_decay_time_outside}
 use Rattle.area.specs.declared.state.State.{State}
-use Rattle.area.specs.declared.state.MaybeTarget.{MaybeTarget}
-use Rattle.area.specs.declared.state.OffsetTarget.{OffsetTarget}
-use Rattle.area.specs.declared.state.MaybePress.{MaybePress}
-use Rattle.area.specs.declared.state.StartOffset.{StartOffset}
-use Rattle.area.specs.declared.state.MaybeRect.{MaybeRect}
 use Rattle.area.specs.Pair.{num}
 use Rattle.area.specs.State.{no_time, no_target, no_press}
 use Rattle.area.specs.Layout as At
@@ -89,31 +88,19 @@ frame_refusal s =
 
 -- 6: "A number in the given state is not finite"; an absent option holds none
 unfoldable pub is_pair_finite : List Float → Bool
-is_pair_finite v = is_finite (num v 0) && is_finite (num v 1)
+is_pair_finite v = pair_finite is_finite v
 
-abbrev pub target_finite : MaybeTarget → Bool
-target_finite MaybeTarget.Nothing = true
-target_finite (MaybeTarget.Toward t) = is_finite t.start && is_finite t.end && is_finite t.target_offset
+abbrev pub is_span_finite : ScrollingToTarget → Bool
+is_span_finite t = is_finite t.start && is_finite t.end && is_finite t.target_offset
 
-unfoldable pub is_target_finite : OffsetTarget → Bool
-is_target_finite t = target_finite t.target
+unfoldable pub are_targets_finite : List (Option ScrollingToTarget) → Bool
+are_targets_finite t = pair_finite (option_finite is_span_finite) t
 
-unfoldable pub are_targets_finite : List OffsetTarget → Bool
-are_targets_finite t = is_target_finite (slice_index_or t 0 no_target) && is_target_finite (slice_index_or t 1 no_target)
+unfoldable pub are_presses_finite : List (Option Float) → Bool
+are_presses_finite p = pair_finite (option_finite is_finite) p
 
-abbrev pub press_finite : MaybePress → Bool
-press_finite MaybePress.Nothing = true
-press_finite (MaybePress.At x) = is_finite x
-
-unfoldable pub is_press_finite : StartOffset → Bool
-is_press_finite p = press_finite p.press
-
-unfoldable pub are_presses_finite : List StartOffset → Bool
-are_presses_finite p = is_press_finite (slice_index_or p 0 no_press) && is_press_finite (slice_index_or p 1 no_press)
-
-unfoldable pub is_rect_finite : MaybeRect → Bool
-is_rect_finite MaybeRect.Nothing = true
-is_rect_finite (MaybeRect.Some r) = is_finite r.min.x && is_finite r.min.y && is_finite r.max.x && is_finite r.max.y
+unfoldable pub is_rect_finite : Option Rect → Bool
+is_rect_finite r = option_finite rect_finite r
 
 unfoldable pub is_state_finite : State → Bool
 is_state_finite s =

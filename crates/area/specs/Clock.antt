@@ -1,5 +1,5 @@
 -- Document 02, K5: "The clock may not run backwards." What the state remembers of it stands in State, and where a frame sets it in PutOut.
-use Rattle.std.specs.Prelude.{ℕ, Bool, cond, List}
+use Rattle.std.specs.Prelude.{ℕ, Bool, cond, List, Float}
 use Rattle.std.specs.Float.Ieee.{lt}
 use Rattle.area.specs.State.{no_time}
 use Rattle.area.specs.Layout as At
@@ -13,6 +13,10 @@ is_back bytes state = lt (time_no bytes At.time) state.remembered_time
 -- 12
 unfoldable pub clock_refusal : List ℕ → State → ℕ
 clock_refusal bytes state = cond (is_back bytes state) 12 0
+
+-- the same of a frame's time
+abbrev pub refusal_at : Float → State → ℕ
+refusal_at time state = cond (lt time state.remembered_time) 12 0
 
 -- "A reset call clears that time and nothing else."
 unfoldable pub reset_of : State → State

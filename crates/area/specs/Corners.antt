@@ -1,4 +1,5 @@
 -- Document 01, "Beginning a frame": the corners of a target under way, for every axis and every number, a not-a-number included.
+use Rattle.std.specs.Prelude.{Some}
 use Rattle.std.specs.Prelude.{◌≡◌, ℕ, true, false, T, List}
 use Rattle.std.specs.Prelude.{Float}
 use Rattle.std.specs.Float.{binary32, binary64}
@@ -7,7 +8,6 @@ use Rattle.numbers.specs.F32.{zero}
 use Rattle.numbers.specs.Scalar.{is_finite}
 use Rattle.numbers.specs.Corners.{since_of, IsBeforeStart}
 use Rattle.area.specs.declared.state.State.{State}
-use Rattle.area.specs.declared.state.MaybeTarget.{MaybeTarget}
 use Rattle.area.specs.declared.state.ScrollingToTarget.{ScrollingToTarget}
 use Rattle.area.specs.declared.prepared.AxisBegun.{AxisBegun}
 use Rattle.area.specs.Frame.{frame_of}
@@ -17,7 +17,7 @@ use Rattle.area.specs.Begin.{dt_of}
 
 -- "A scroll target under way is kept as nothing, or as a start, an end and a goal": what follows is of the second
 pub under_way : (b : AxisBegun) (t : ScrollingToTarget) (time dt : Float) →
-    b.motion.offset_target.target ≡ MaybeTarget.Toward t →
+    b.motion.offset_target ≡ Some t →
     followed_of b time dt ≡ approach_of b t time dt
 unfolding followed_of
 under_way b t time dt h = rw h

@@ -1,4 +1,5 @@
 -- The explicit offset, then the hand's drag or the axis's own step under a table, on one axis.
+use Rattle.std.specs.Prelude.{Option, Some, None}
 use Rattle.std.specs.Prelude.{ℕ, false, cond, slice_index_or}
 use Rattle.std.specs.Prelude.{Float}
 use Rattle.std.specs.Float.Ieee.{neg}
@@ -9,9 +10,7 @@ use Rattle.axis.specs.Physics.{drag_of, is_rubber_banding}
 use Rattle.axis.specs.Step.{step_of}
 use Rattle.axis.specs.declared.physics.AxisPhysics.{AxisPhysics}
 use Rattle.axis.specs.declared.step.Stepped.{Stepped}
-use Rattle.area.specs.declared.frame.MaybeNumber.{MaybeNumber}
-use Rattle.area.specs.declared.frame.GivenOffset.{GivenOffset}
-use Rattle.area.specs.declared.frame.Settings.{Settings}
+use Rattle.area.specs.Fields.{Settings}
 use Rattle.area.specs.declared.state.State.{State}
 use Rattle.area.specs.declared.prepared.AxisMotion.{AxisMotion}
 use Rattle.area.specs.declared.prepared.AxisBefore.{AxisBefore}
@@ -21,17 +20,17 @@ use Rattle.area.specs.Pair.{num, flag}
 use Rattle.area.specs.State.{no_target, no_press}
 
 -- Option::unwrap_or
-abbrev pub unwrap_or : MaybeNumber → Float → Float
-unwrap_or MaybeNumber.Nothing offset = offset
-unwrap_or (MaybeNumber.Some given) offset = given
+abbrev pub unwrap_or : Option Float → Float → Float
+unwrap_or None offset = offset
+unwrap_or (Some given) offset = given
 
 -- "offset_x.unwrap_or(state.offset.x)", and y
-unfoldable pub given_offset_or : GivenOffset → Float → Float
-given_offset_or given offset = unwrap_or given.number offset
+unfoldable pub given_offset_or : Option Float → Float → Float
+given_offset_or given offset = unwrap_or given offset
 
 -- what an index past the pair would read
-abbrev pub no_given_offset : GivenOffset
-no_given_offset = record { number = MaybeNumber.Nothing }
+abbrev pub no_given_offset : Option Float
+no_given_offset = None
 
 -- "state.offset.x = ..": what of the state moves on axis d, with the explicit offset in it
 unfoldable pub opened_of : Settings → State → ℕ → AxisMotion

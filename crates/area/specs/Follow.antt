@@ -1,11 +1,11 @@
 -- "A scroll target under way .. moves after drag or step and zeroes the velocity."
+use Rattle.std.specs.Prelude.{Option, Some, None}
 use Rattle.std.specs.Prelude.{Bool, true, cond}
 use Rattle.std.specs.Prelude.{Float}
 use Rattle.std.specs.Float.Ieee.{lt}
 use Rattle.numbers.specs.F32.{minus, zero, one}
 use Rattle.numbers.specs.Scalar.{abs_of}
 use Rattle.numbers.specs.Blend.{lerp_of, interpolation_factor_of}
-use Rattle.area.specs.declared.state.MaybeTarget.{MaybeTarget}
 use Rattle.area.specs.declared.state.ScrollingToTarget.{ScrollingToTarget}
 use Rattle.area.specs.declared.prepared.AxisBegun.{AxisBegun}
 use Rattle.area.specs.State.{no_target}
@@ -33,7 +33,7 @@ moved_by b t factor = record {
   motion = record {
     offset = lerp_of b.motion.offset t.target_offset factor;
     vel = zero;
-    offset_target = record { target = MaybeTarget.Toward t };
+    offset_target = (Some t);
     scroll_stuck_to_end = b.motion.scroll_stuck_to_end;
   };
   rubber_banding = b.rubber_banding;
@@ -52,10 +52,10 @@ approach_of b t time dt =
     (moved_towards b t (interpolation_factor_of t.start t.end time dt))
 
 -- "A scroll target under way is kept as nothing, or as a start, an end and a goal"
-abbrev pub followed_to : AxisBegun → Float → Float → MaybeTarget → AxisBegun
-followed_to b time dt MaybeTarget.Nothing = b
-followed_to b time dt (MaybeTarget.Toward t) = approach_of b t time dt
+abbrev pub followed_to : AxisBegun → Float → Float → Option ScrollingToTarget → AxisBegun
+followed_to b time dt None = b
+followed_to b time dt (Some t) = approach_of b t time dt
 
 -- "Scroll with an animation if we have a target offset (that hasn't been cleared by the code above)."
 unfoldable pub followed_of : AxisBegun → Float → Float → AxisBegun
-followed_of b time dt = followed_to b time dt b.motion.offset_target.target
+followed_of b time dt = followed_to b time dt b.motion.offset_target

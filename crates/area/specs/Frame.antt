@@ -1,5 +1,6 @@
 -- The frame that the words stand for. "pairs and points in order x, y; rectangles as min, max. An option is a flag, then its words,
 -- ignored if the flag is 0."
+use Rattle.std.specs.Prelude.{Option, Some, None}
 use Rattle.std.specs.Prelude.{◌≡◌, ℕ, ◌+◌, ◌-◌, ◌*◌, ◌<◌, ◌≤◌, Bool, cond, List, [], ◌∷◌, length, ◌==◌, from_bits, to_bits}
 use Rattle.std.specs.Prelude.{Float}
 use Rattle.std.specs.Float.{binary32, binary64}
@@ -9,23 +10,13 @@ use Rattle.numbers.specs.declared.shape.Pos2.{Pos2}
 use Rattle.numbers.specs.declared.shape.Rect.{Rect}
 use Rattle.numbers.specs.declared.range.Rangef.{Rangef}
 use Rattle.axis.specs.declared.wheel.WheelSource.{WheelSource}
-use Rattle.area.specs.declared.state.MaybeRect.{MaybeRect}
-use Rattle.area.specs.declared.frame.MaybeNumber.{MaybeNumber}
-use Rattle.area.specs.declared.frame.GivenOffset.{GivenOffset}
-use Rattle.area.specs.declared.frame.MaybePos2.{MaybePos2}
-use Rattle.area.specs.declared.frame.BarResponse.{BarResponse}
-use Rattle.area.specs.declared.frame.ScrollAnimation.{ScrollAnimation}
-use Rattle.area.specs.declared.frame.MaybeAlign.{MaybeAlign}
-use Rattle.area.specs.declared.frame.ScrollTarget.{ScrollTarget}
-use Rattle.area.specs.declared.frame.MaybeScrollTarget.{MaybeScrollTarget}
-use Rattle.area.specs.declared.frame.TargetRequest.{TargetRequest}
-use Rattle.area.specs.declared.frame.ScrollBarVisibility.{ScrollBarVisibility}
-use Rattle.area.specs.declared.frame.DragScroll.{DragScroll}
-use Rattle.area.specs.declared.frame.Settings.{Settings}
-use Rattle.area.specs.declared.frame.Style.{Style}
-use Rattle.area.specs.declared.frame.Host.{Host}
-use Rattle.area.specs.declared.frame.Content.{Content}
-use Rattle.area.specs.declared.frame.Frame.{Frame}
+use Rattle.axis.specs.Wheel.{source_of}
+use Rattle.area.specs.declared.fields.BarResponse.{BarResponse}
+use Rattle.area.specs.declared.fields.ScrollAnimation.{ScrollAnimation}
+use Rattle.area.specs.declared.fields.ScrollTarget.{ScrollTarget}
+use Rattle.area.specs.declared.fields.ScrollBarVisibility.{ScrollBarVisibility}
+use Rattle.area.specs.declared.fields.DragScroll.{DragScroll}
+use Rattle.area.specs.Fields.{Settings, Style, Host, Content, Frame}
 use Rattle.area.specs.Layout as At
 
 -- ---- a word, by its number from 1
@@ -70,42 +61,53 @@ rect_no s n = record { min = pos2_no s n; max = pos2_no s (n + 2) }
 unfoldable pub rangef_no : List ℕ → ℕ → Rangef
 rangef_no s n = record { min = number_no s n; max = number_no s (n + 1) }
 
--- ---- options
-unfoldable pub maybe_number_no : List ℕ → ℕ → MaybeNumber
-maybe_number_no s n = cond (flag_no s n) (MaybeNumber.Some (number_no s (n + 1))) MaybeNumber.Nothing
+-- ---- words of one kind, given what a word stands for; options, given how what may be absent is read
+unfoldable pub kind_no : {A : Type 0} → (ℕ → A) → List ℕ → ℕ → A
+kind_no of s n = of (word_no s n)
 
-unfoldable pub given_offset_no : List ℕ → ℕ → GivenOffset
-given_offset_no s n = record { number = maybe_number_no s n }
+unfoldable pub both_no : {A : Type 0} → (ℕ → A) → List ℕ → ℕ → List A
+both_no of s n = of (word_no s n) ∷ of (word_no s (n + 1)) ∷ []
 
-unfoldable pub maybe_pos2_no : List ℕ → ℕ → MaybePos2
-maybe_pos2_no s n = cond (flag_no s n) (MaybePos2.Some (pos2_no s (n + 1))) MaybePos2.Nothing
+unfoldable pub option_no : {A : Type 0} → (List ℕ → ℕ → A) → List ℕ → ℕ → Option A
+option_no read s n = cond (flag_no s n) (Some (read s (n + 1))) None
 
-unfoldable pub maybe_rect_no : List ℕ → ℕ → MaybeRect
-maybe_rect_no s n = cond (flag_no s n) (MaybeRect.Some (rect_no s (n + 1))) MaybeRect.Nothing
+abbrev pub maybe_number_no : List ℕ → ℕ → Option Float
+maybe_number_no = option_no number_no
+
+abbrev pub maybe_pos2_no : List ℕ → ℕ → Option Pos2
+maybe_pos2_no = option_no pos2_no
+
+abbrev pub maybe_rect_no : List ℕ → ℕ → Option Rect
+maybe_rect_no = option_no rect_no
 
 -- ---- kinds: a value past the last is turned back by check 2, and reads as the last
 -- "visibility (0 hidden, 1 when needed, 2 always)"
-unfoldable pub visibility_no : List ℕ → ℕ → ScrollBarVisibility
-visibility_no s n = cond (word_no s n == 0) ScrollBarVisibility.AlwaysHidden (cond (word_no s n == 1) ScrollBarVisibility.VisibleWhenNeeded ScrollBarVisibility.AlwaysVisible)
+abbrev pub visibility_of : ℕ → ScrollBarVisibility
+visibility_of w = cond (w == 0) ScrollBarVisibility.AlwaysHidden (cond (w == 1) ScrollBarVisibility.VisibleWhenNeeded ScrollBarVisibility.AlwaysVisible)
 
 -- "drag (0 Never, 1 OnTouch, 2 Always)"
-unfoldable pub drag_no : List ℕ → ℕ → DragScroll
-drag_no s n = cond (word_no s n == 0) DragScroll.Never (cond (word_no s n == 1) DragScroll.OnTouch DragScroll.Always)
-
--- "source (0 none, 1 Unknown, 2 Wheel, 3 Trackpad, 4 Momentum)"
-unfoldable pub source_no : List ℕ → ℕ → WheelSource
-source_no s n =
-    cond (word_no s n == 0) WheelSource.Nothing
-    (cond (word_no s n == 1) WheelSource.Unknown
-    (cond (word_no s n == 2) WheelSource.Wheel
-    (cond (word_no s n == 3) WheelSource.Trackpad WheelSource.Momentum)))
+abbrev pub drag_of : ℕ → DragScroll
+drag_of w = cond (w == 0) DragScroll.Never (cond (w == 1) DragScroll.OnTouch DragScroll.Always)
 
 -- "align (0 none, 1 Min, 2 Center, 3 Max)"
-unfoldable pub align_no : List ℕ → ℕ → MaybeAlign
-align_no s n =
-    cond (word_no s n == 0) MaybeAlign.Nothing
-    (cond (word_no s n == 1) (MaybeAlign.Some Align.Min)
-    (cond (word_no s n == 2) (MaybeAlign.Some Align.Center) (MaybeAlign.Some Align.Max)))
+abbrev pub align_of : ℕ → Option Align
+align_of w =
+    cond (w == 0) None
+    (cond (w == 1) (Some Align.Min)
+    (cond (w == 2) (Some Align.Center) (Some Align.Max)))
+
+abbrev pub visibility_no : List ℕ → ℕ → ScrollBarVisibility
+visibility_no = kind_no visibility_of
+
+abbrev pub drag_no : List ℕ → ℕ → DragScroll
+drag_no = kind_no drag_of
+
+-- "source (0 none, 1 Unknown, 2 Wheel, 3 Trackpad, 4 Momentum)"
+abbrev pub source_no : List ℕ → ℕ → Option WheelSource
+source_no = kind_no source_of
+
+abbrev pub align_no : List ℕ → ℕ → Option Align
+align_no = kind_no align_of
 
 -- ---- "for each axis's bar hovered, dragged, press option 3"
 unfoldable pub bar_response_no : List ℕ → ℕ → BarResponse
@@ -119,11 +121,8 @@ animation_no s n = record { points_per_second = number_no s n; duration = rangef
 unfoldable pub scroll_target_no : List ℕ → ℕ → ScrollTarget
 scroll_target_no s n = record { range = rangef_no s n; align = align_no s (n + 2); animation = animation_no s (n + 3) }
 
-unfoldable pub maybe_scroll_target_no : List ℕ → ℕ → MaybeScrollTarget
-maybe_scroll_target_no s n = cond (flag_no s n) (MaybeScrollTarget.Some (scroll_target_no s (n + 1))) MaybeScrollTarget.Nothing
-
-unfoldable pub target_request_no : List ℕ → ℕ → TargetRequest
-target_request_no s n = record { target = maybe_scroll_target_no s n }
+abbrev pub maybe_scroll_target_no : List ℕ → ℕ → Option ScrollTarget
+maybe_scroll_target_no = option_no scroll_target_no
 
 -- ---- the frame
 unfoldable pub settings_of : List ℕ → Settings
@@ -134,7 +133,7 @@ settings_of s = record {
   min_scrolled_size = pair_no s At.min_scrolled_size;
   scroll_bar_visibility = visibility_no s At.scroll_bar_visibility;
   scroll_bar_rect = maybe_rect_no s At.scroll_bar_rect;
-  offset = given_offset_no s At.offset_x ∷ given_offset_no s At.offset_y ∷ [];
+  offset = maybe_number_no s At.offset_x ∷ maybe_number_no s At.offset_y ∷ [];
   scroll_bar = flag_no s At.scroll_bar;
   drag = drag_no s At.drag;
   mouse_wheel = flag_no s At.mouse_wheel;
@@ -189,7 +188,7 @@ content_of s = record {
   min = pair_no s At.content_min;
   scroll_delta = pair_no s At.scroll_delta;
   animation = animation_no s At.scroll_delta_animation;
-  targets = target_request_no s At.target_x ∷ target_request_no s At.target_y ∷ [];
+  targets = maybe_scroll_target_no s At.target_x ∷ maybe_scroll_target_no s At.target_y ∷ [];
 }
 
 unfoldable pub frame_of : List ℕ → Frame

@@ -1,18 +1,12 @@
 -- What both halves of a frame ask of points, rectangles and options.
+use Rattle.std.specs.Prelude.{Option, Some, None, is_some}
+use Rattle.area.specs.declared.state.ScrollingToTarget.{ScrollingToTarget}
 use Rattle.std.specs.Prelude.{ℕ, Bool, true, false, cond, ◌==◌}
 use Rattle.std.specs.Prelude.{Float}
 use Rattle.numbers.specs.Shape.{intersect_of, rect_contains_of}
 use Rattle.numbers.specs.declared.shape.Pos2.{Pos2}
 use Rattle.numbers.specs.declared.shape.Rect.{Rect}
-use Rattle.area.specs.declared.frame.MaybePos2.{MaybePos2}
-use Rattle.area.specs.declared.frame.ScrollBarVisibility.{ScrollBarVisibility}
-use Rattle.area.specs.declared.state.MaybeRect.{MaybeRect}
-use Rattle.area.specs.declared.state.MaybeTarget.{MaybeTarget}
-use Rattle.area.specs.declared.state.OffsetTarget.{OffsetTarget}
-
--- p[d]
-unfoldable pub along_of : Pos2 → ℕ → Float
-along_of p d = cond (d == 0) p.x p.y
+use Rattle.area.specs.declared.fields.ScrollBarVisibility.{ScrollBarVisibility}
 
 -- if test { a } else { b }
 unfoldable pub pick_of : Bool → Float → Float → Float
@@ -25,19 +19,14 @@ shows_bar ScrollBarVisibility.VisibleWhenNeeded needed enabled = needed
 shows_bar ScrollBarVisibility.AlwaysVisible needed enabled = enabled
 
 -- "A rectangle holds the pointer if its intersection with the clip does"
-unfoldable pub rect_contains_pointer : Rect → MaybePos2 → Rect → Bool
-rect_contains_pointer clip MaybePos2.Nothing rect = false
-rect_contains_pointer clip (MaybePos2.Some p) rect = rect_contains_of (intersect_of clip rect) p
+unfoldable pub rect_contains_pointer : Rect → Option Pos2 → Rect → Bool
+rect_contains_pointer clip None rect = false
+rect_contains_pointer clip (Some p) rect = rect_contains_of (intersect_of clip rect) p
 
 -- interact_rect.is_some()
-unfoldable pub is_rect_stored : MaybeRect → Bool
-is_rect_stored MaybeRect.Nothing = false
-is_rect_stored (MaybeRect.Some r) = true
-
-abbrev pub is_toward : MaybeTarget → Bool
-is_toward MaybeTarget.Nothing = false
-is_toward (MaybeTarget.Toward t) = true
+unfoldable pub is_rect_stored : Option Rect → Bool
+is_rect_stored r = is_some r
 
 -- offset_target[d].is_some()
-unfoldable pub has_target : OffsetTarget → Bool
-has_target t = is_toward t.target
+unfoldable pub has_target : Option ScrollingToTarget → Bool
+has_target t = is_some t

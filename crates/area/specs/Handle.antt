@@ -1,4 +1,5 @@
 -- The bar loop from show_factor to calculate_handle_rect: where one axis's bar stands and where its handle is on it.
+use Rattle.std.specs.Prelude.{Option, Some, None}
 use Rattle.std.specs.Prelude.{ℕ, Bool, cond, ◌&&◌, ◌==◌}
 use Rattle.std.specs.Prelude.{Float}
 use Rattle.std.specs.Float.Ieee.{lt, le}
@@ -8,10 +9,10 @@ use Rattle.numbers.specs.Blend.{lerp_of, remap_clamp_of}
 use Rattle.numbers.specs.declared.range.Rangef.{Rangef}
 use Rattle.numbers.specs.declared.shape.Rect.{Rect}
 use Rattle.area.specs.Pair.{num}
-use Rattle.area.specs.Geometry.{along_of, pick_of}
-use Rattle.area.specs.declared.frame.Frame.{Frame}
-use Rattle.area.specs.declared.frame.Style.{Style}
-use Rattle.area.specs.declared.state.MaybeRect.{MaybeRect}
+use Rattle.numbers.specs.Shape.{along_of}
+use Rattle.area.specs.Geometry.{pick_of}
+use Rattle.area.specs.Fields.{Frame}
+use Rattle.area.specs.Fields.{Style}
 use Rattle.area.specs.declared.handle.BarSpace.{BarSpace}
 use Rattle.area.specs.declared.handle.Track.{Track}
 
@@ -43,9 +44,9 @@ cross_of style show_factor hover_factor max_cross inner_max =
     cond style.floating (floating_cross style show_factor hover_factor max_cross) (solid_cross style show_factor max_cross inner_max)
 
 -- of scroll_bar_rect.unwrap_or(inner_rect): min[d]..=max[d]
-unfoldable pub bar_range_of : MaybeRect → Rangef → ℕ → Rangef
-bar_range_of MaybeRect.Nothing inner d = inner
-bar_range_of (MaybeRect.Some rect) inner d = record { min = along_of rect.min d; max = along_of rect.max d }
+unfoldable pub bar_range_of : Option Rect → Rangef → ℕ → Rangef
+bar_range_of None inner d = inner
+bar_range_of (Some rect) inner d = record { min = along_of rect.min d; max = along_of rect.max d }
 
 -- what from_content and calculate_handle_rect hold of the lines above them; e is 1 - d
 unfoldable pub track_of : Frame → ℕ → ℕ → BarSpace → Float → Track

@@ -4,6 +4,7 @@
 pub mod Pair
 pub mod State
 pub mod Layout
+pub mod Fields
 pub mod Frame
 pub mod Clock
 pub mod Checks

@@ -18,9 +18,9 @@ use Rattle.area.specs.Moved.{extent_on, is_moved, is_moved_by_words}
 use Rattle.area.specs.SettlingRun.{settle_under, frames_of, settled_by}
 use Rattle.area.specs.Listing.{ListingShown}
 use Rattle.area.specs.declared.state.State.{State}
-use Rattle.area.specs.declared.outcome.Outcome.{Outcome}
-use Rattle.area.specs.declared.outcome.Answer.{Answer}
-use Rattle.area.specs.declared.settling_run.Settled.{Settled}
+use Rattle.area.specs.Outcome.{Outcome}
+use Rattle.area.specs.Outcome.{Answer}
+use Rattle.area.specs.SettlingRun.{Settled}
 
 -- ---- what the calls promise, under the table that each uses: their `ensures`, as they stand
 

@@ -1,5 +1,7 @@
 -- When an axis "is moved by hand or program", read twice: by the frame's words alone, as document 01 names them, and in the
 -- narrowest way, where only a move that the steps heed counts. Axis d is 0 for x and 1 for y.
+use Rattle.std.specs.Prelude.{Option, Some, None}
+use Rattle.numbers.specs.declared.shape.Pos2.{Pos2}
 use Rattle.std.specs.Prelude.{◌≡◌, ℕ, ◌+◌, Bool, true, false, cond, not, ◌&&◌, ◌||◌, List, ◌==◌, slice_index_or}
 use Rattle.std.specs.Float.Ieee.{eq, ne}
 use Rattle.numbers.specs.Table.{Table}
@@ -11,8 +13,7 @@ use Rattle.area.specs.Handle.{show_factor_of}
 use Rattle.area.specs.Bar.{no_response}
 use Rattle.area.specs.Steps.{begun_at, ended_at, step_at, is_accepted}
 use Rattle.area.specs.declared.state.State.{State}
-use Rattle.area.specs.declared.frame.Frame.{Frame}
-use Rattle.area.specs.declared.frame.MaybePos2.{MaybePos2}
+use Rattle.area.specs.Fields.{Frame}
 use Rattle.area.specs.declared.prepared.Prepared.{Prepared}
 use Rattle.area.specs.declared.extent.AxisExtent.{AxisExtent}
 use Rattle.area.specs.declared.end.AxisEnded.{AxisEnded}
@@ -48,9 +49,9 @@ ended_on e d = cond (d == 0) e.x e.y
 abbrev pub extent_on : Ended → ℕ → AxisExtent
 extent_on e d = cond (d == 0) e.x_extent e.y_extent
 
-abbrev pub is_some_pos2 : MaybePos2 → Bool
-is_some_pos2 MaybePos2.Nothing = false
-is_some_pos2 (MaybePos2.Some p) = true
+abbrev pub is_some_pos2 : Option Pos2 → Bool
+is_some_pos2 None = false
+is_some_pos2 (Some p) = true
 
 -- a background drag that counts, on an axis that is enabled
 unfoldable pub is_drag_heeded : Frame → Prepared → ℕ → Bool

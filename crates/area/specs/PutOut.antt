@@ -1,4 +1,5 @@
 -- The answer of an accepted frame: the state that `end` stores, and ScrollAreaOutput with what the host gets back.
+use Rattle.std.specs.Prelude.{Some}
 use Rattle.std.specs.Prelude.{Bool, not, ◌&&◌, ◌||◌, List, [], ◌∷◌}
 use Rattle.std.specs.Bool.{beq}
 use Rattle.std.specs.Prelude.{Float}
@@ -8,12 +9,11 @@ use Rattle.area.specs.Geometry.{pick_of}
 use Rattle.area.specs.Begin.{inner_rect_of, viewport_of}
 use Rattle.area.specs.End.{shrunk_rect_of}
 use Rattle.area.specs.declared.state.State.{State}
-use Rattle.area.specs.declared.state.MaybeRect.{MaybeRect}
-use Rattle.area.specs.declared.frame.Frame.{Frame}
+use Rattle.area.specs.Fields.{Frame}
 use Rattle.area.specs.declared.prepared.Prepared.{Prepared}
 use Rattle.area.specs.declared.end.Ended.{Ended}
-use Rattle.area.specs.declared.outcome.Outcome.{Outcome}
-use Rattle.area.specs.declared.outcome.Answer.{Answer}
+use Rattle.area.specs.Outcome.{Outcome}
+use Rattle.area.specs.Outcome.{Answer}
 
 -- state, as `end` stores it; "The state shall remember the time of its last accepted frame"
 unfoldable pub next_state : Frame → Ended → State
@@ -27,7 +27,7 @@ next_state f e = record {
   vel = e.x.vel ∷ e.y.vel ∷ [];
   scroll_start_offset_from_top_left = e.x.press ∷ e.y.press ∷ [];
   scroll_stuck_to_end = e.x.scroll_stuck_to_end ∷ e.y.scroll_stuck_to_end ∷ [];
-  interact_rect = MaybeRect.Some (shrunk_rect_of e.x_extent e.y_extent);
+  interact_rect = Some (shrunk_rect_of e.x_extent e.y_extent);
   bounced_this_momentum = e.x.bounced_this_momentum ∷ e.y.bounced_this_momentum ∷ [];
   remembered_time = f.host.time;
 }

@@ -1,16 +1,31 @@
 -- A list of frame calls in bytes: for each call a flag, 0 for a call by value and any other for a lent one, and the frame; the last frame
 -- may be shorter. Every call is by table T.
-use Rattle.std.specs.Prelude.{◌≡◌, ℕ, zero, suc, ◌-◌, ◌≤◌, cond, List, [], ◌∷◌, map, length, take, drop, ◌==◌}
+use Rattle.std.specs.Prelude.{◌≡◌, ℕ, zero, suc, cond, List, [], ◌∷◌, map, length, take, drop, ◌==◌}
 use Rattle.numbers.specs.Table.{table_at}
 use Rattle.area.specs.State.{default}
 use Rattle.area.specs.Lists.{Call, by_value, lent, Told, of_frame, of_run, of_reset, told_from, Run, Whole}
 use Rattle.area.specs.declared.state.State.{State}
+use Rattle.area.specs.declared.replays.Form.{Form}
 
 abbrev pub frame_length : ℕ
 frame_length = 416
 
 abbrev pub call_by : ℕ → List ℕ → Call
 call_by by bytes = cond (by == 0) (by_value table_at bytes) (lent table_at bytes)
+
+-- the same of the code's own name for it
+abbrev pub form_of : ℕ → Form
+form_of by = cond (by == 0) Form.ByValue Form.Lent
+
+-- a call by that name
+abbrev pub call_in : Form → List ℕ → Call
+call_in Form.ByValue bytes = by_value table_at bytes
+call_in Form.Lent bytes = lent table_at bytes
+
+-- "by turns"
+abbrev pub other_than : Form → Form
+other_than Form.ByValue = Form.Lent
+other_than Form.Lent = Form.ByValue
 
 -- at most n calls
 abbrev pub calls_up_to : ℕ → List ℕ → List Call
@@ -21,13 +36,6 @@ calls_up_to (suc n) (by ∷ bytes) = call_by by (take frame_length bytes) ∷ ca
 -- each call takes a byte at least
 unfoldable pub calls_of : List ℕ → List Call
 calls_of bytes = calls_up_to (length bytes) bytes
-
--- the frame that begins at `start` ends at `end`
-pub record Part (bytes : List ℕ) (start end : ℕ) : Type 0 where
-  pub low : start ≤ end
-  pub high : end ≤ length bytes
-  pub frame : take (end - start) (drop start bytes) ≡ take frame_length (drop start bytes)
-  pub rest : drop end bytes ≡ drop frame_length (drop start bytes)
 
 -- what the steps refuse, call by call; a reset never is
 abbrev pub refusal_in : Told → ℕ

@@ -14,8 +14,19 @@ use Rattle.area.specs.Call.{call_under}
 use Rattle.area.specs.Steps.{Fed, fed_frame, fed_reset, step_at, answers_from, state_from, is_accepted, accepted_from}
 use Rattle.area.specs.Moved.{is_moved_by_words}
 use Rattle.area.specs.declared.state.State.{State}
-use Rattle.area.specs.declared.outcome.Answer.{Answer}
-use Rattle.area.specs.declared.settling_run.Settled.{Settled}
+use Rattle.area.specs.Outcome.{Answer}
+use Rattle.area.specs.declared.settling_run.SettlingRun.{SettlingRun}
+use Rattle.refusals.specs.Refusal.{number_or_0}
+
+-- the refusal or 0, the frames used, and the state after them
+pub record Settled : Type 0 where
+  pub refusal : ℕ
+  pub used : ℕ
+  pub state : State
+
+-- what the code answers, in these words
+abbrev pub settled_in : SettlingRun → Settled
+settled_in r = record { refusal = number_or_0 r.refusal; used = r.used; state = r.state }
 
 -- ---- what is turned back up front
 

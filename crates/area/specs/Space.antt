@@ -5,11 +5,12 @@ use Rattle.numbers.specs.F32.{plus, minus, times}
 use Rattle.numbers.specs.Scalar.{max_of, min_of, flag_of}
 use Rattle.numbers.specs.declared.range.Rangef.{Rangef}
 use Rattle.numbers.specs.declared.shape.Rect.{Rect}
-use Rattle.area.specs.declared.frame.Frame.{Frame}
-use Rattle.area.specs.declared.frame.Settings.{Settings}
+use Rattle.area.specs.Fields.{Frame}
+use Rattle.area.specs.Fields.{Settings}
 use Rattle.area.specs.declared.prepared.AxisSpace.{AxisSpace}
 use Rattle.area.specs.Pair.{num, flag}
-use Rattle.area.specs.Geometry.{along_of, shows_bar}
+use Rattle.numbers.specs.Shape.{along_of}
+use Rattle.area.specs.Geometry.{shows_bar}
 
 -- "show_bars.to_vec2().yx() * scroll_style.allocated_width()"
 abbrev pub floating_bar_use : Float → Bool → Float

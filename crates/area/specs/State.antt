@@ -1,4 +1,6 @@
 -- `State::default`, document 02's remembered time, and the offset readers.
+use Rattle.std.specs.Prelude.{Option, None}
+use Rattle.area.specs.declared.state.ScrollingToTarget.{ScrollingToTarget}
 use Rattle.std.specs.Prelude.{◌≡◌, true, false, List, [], ◌∷◌, pos}
 use Rattle.std.specs.Prelude.{refl, Float}
 use Rattle.std.specs.Float.{binary64}
@@ -8,17 +10,12 @@ use Rattle.numbers.specs.Range.{clamp_of}
 use Rattle.axis.specs.Physics.{scroll_bounds_of}
 use Rattle.area.specs.Pair.{num}
 use Rattle.area.specs.declared.state.State.{State}
-use Rattle.area.specs.declared.state.MaybeTarget.{MaybeTarget}
-use Rattle.area.specs.declared.state.OffsetTarget.{OffsetTarget}
-use Rattle.area.specs.declared.state.MaybePress.{MaybePress}
-use Rattle.area.specs.declared.state.StartOffset.{StartOffset}
-use Rattle.area.specs.declared.state.MaybeRect.{MaybeRect}
 
-abbrev pub no_target : OffsetTarget
-no_target = record { target = MaybeTarget.Nothing }
+abbrev pub no_target : Option ScrollingToTarget
+no_target = None
 
-abbrev pub no_press : StartOffset
-no_press = record { press = MaybePress.Nothing }
+abbrev pub no_press : Option Float
+no_press = None
 
 -- "0 in a fresh one"
 abbrev pub no_time : Float
@@ -40,7 +37,7 @@ default = record {
   vel = zero ∷ zero ∷ [];
   scroll_start_offset_from_top_left = no_press ∷ no_press ∷ [];
   scroll_stuck_to_end = true ∷ true ∷ [];
-  interact_rect = MaybeRect.Nothing;
+  interact_rect = None;
   bounced_this_momentum = false ∷ false ∷ [];
   remembered_time = no_time;
 }

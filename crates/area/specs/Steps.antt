@@ -13,7 +13,7 @@ use Rattle.area.specs.Outcome.{refused_of, is_answer_finite}
 use Rattle.area.specs.declared.state.State.{State}
 use Rattle.area.specs.declared.prepared.Prepared.{Prepared}
 use Rattle.area.specs.declared.end.Ended.{Ended}
-use Rattle.area.specs.declared.outcome.Answer.{Answer}
+use Rattle.area.specs.Outcome.{Answer}
 
 -- ---- one frame's bytes, under the table that its call uses, on the state S that the steps hold
 

@@ -1,17 +1,17 @@
 // Targets and deltas: where the content asks to be scrolled to, and what that does to the motion of one axis.
-ghost use Rattle.std.specs.Prelude.{◌≡◌, ◌<◌};
-ghost use Rattle.area.specs.Frame.{Whole, frame_of};
+ghost use Rattle.std.specs.Prelude.{◌≡◌};
+ghost use Rattle.numbers.specs.Axis.{index_of};
 ghost use Rattle.area.specs.Adjust as Spec;
 
-use crate::frame::{MaybeAlign, MaybeScrollTarget, ScrollAnimation, ScrollTarget, TargetRequest};
+use crate::fields::{ScrollAnimation, ScrollTarget};
+use crate::frame::Frame;
 use crate::prepared::{AxisMotion, AxisSpace};
-use crate::state::{MaybeTarget, OffsetTarget, ScrollingToTarget};
-use crate::{content_words, host_words, settings_words, style_words};
-use numbers::{Align, Rangef, abs, clamp, lerp, min, remap, widen};
+use crate::state::ScrollingToTarget;
+use numbers::{Align, Axis, Rangef, abs, clamp, lerp, min, remap, widen};
 
 // One axis of the visible window that a target is brought into: where the content starts, the clip's side, and the space
 // to leave around the target.
-#[derive(Clone, Copy)]
+#[derive(Clone, Copy, Debug, PartialEq)]
 pub struct AxisView {
     pub min: f32,
     pub clip_start: f32,
@@ -20,51 +20,53 @@ pub struct AxisView {
 }
 
 // How far the content asks to be scrolled, and how fast if that is animated.
-#[derive(Clone, Copy)]
+#[derive(Clone, Copy, Debug, PartialEq)]
 pub struct AskedDelta {
     pub delta: f32,
     pub animation: ScrollAnimation,
 }
 
 // The motion after a request, and whether there was one; if so, a repaint is wanted too.
-#[derive(Clone, Copy)]
+#[derive(Clone, Copy, Debug, PartialEq)]
 pub struct Adjusted {
     pub motion: AxisMotion,
+    // Stays: a flag beside the motion. The motion stands either way, and later stages ask for the flag alone.
     pub had_explicit_scroll_adjustment: bool,
 }
 
 // Scrolls one axis as its content asks: not at all, at once, or by a target that later frames follow.
-pub fn adjust_axis(frame: &[u8], d: usize, space: AxisSpace, motion: AxisMotion) -> Adjusted
-    requires { Whole frame.now × (d < 2) }
-    ensures { result ≡ Spec.adjusted_of (frame_of frame.now) d space motion }
+#[tactic(auto, unfolding(crate::specs::Adjust::adjusted_of, crate::specs::Adjust::view_of, crate::specs::Adjust::asked_at))]
+pub fn adjust_axis(frame: &Frame, d: Axis, space: AxisSpace, motion: AxisMotion) -> Adjusted
+    ensures { result ≡ Spec.adjusted_of frame.now (index_of d) space motion }
 {
     // A target's range is in the ui's coordinates, as the clip's side is.
     let view = AxisView {
-        min: content_words::min(frame, d),
+        min: frame.content_min(d),
         clip_start: space.clip_min,
         clip_end: space.clip_max,
-        spacing: style_words::item_spacing(frame, d),
+        spacing: frame.item_spacing(d),
     };
     // Seen from the offset that `begin` left.
     let asked = ask(
-        content_words::target_request(frame, d),
-        content_words::scroll_delta(frame, d),
-        content_words::animation(frame),
+        frame.target_request(d),
+        frame.scroll_delta(d),
+        frame.scroll_delta_animation(),
         view,
         motion.offset,
     );
     adjust_by(
         motion,
         asked,
-        settings_words::direction_enabled(frame, d),
-        settings_words::animated(frame),
-        host_words::time(frame),
+        frame.direction_enabled(d),
+        frame.animated(),
+        frame.time(),
     )
 }
 
 // A scroll delta points against the offset, so it is negated; a target adds to it, and its animation counts.
+#[tactic(auto, unfolding(crate::specs::Adjust::asked_of))]
 fn ask(
-    request: TargetRequest,
+    request: Option<ScrollTarget>,
     scroll_delta: f32,
     scroll_animation: ScrollAnimation,
     view: AxisView,
@@ -72,36 +74,31 @@ fn ask(
 ) -> AskedDelta
     ensures { result ≡ Spec.asked_of request scroll_delta scroll_animation view offset }
 {
-    let target = request.target;
-    match target {
-        MaybeScrollTarget::Nothing => AskedDelta {
+    match request {
+        None => AskedDelta {
             delta: -scroll_delta,
             animation: scroll_animation,
         },
-        MaybeScrollTarget::Some(to) => {
-            let update = delta_update(to, view, offset);
-            let animation = to.animation;
-            AskedDelta {
-                delta: -scroll_delta + update,
-                animation,
-            }
-        }
+        Some(target) => AskedDelta {
+            delta: -scroll_delta + delta_update(target, view, offset),
+            animation: target.animation,
+        },
     }
 }
 
 // Without an alignment a target is only brought into view.
+#[tactic(auto, unfolding(crate::specs::Adjust::delta_update))]
 fn delta_update(target: ScrollTarget, view: AxisView, offset: f32) -> f32
     ensures { result ≡ Spec.delta_update target view offset }
 {
-    let align = target.align;
-    let range = target.range;
-    match align {
-        MaybeAlign::Some(to) => aligned_delta(to, range, view, offset),
-        MaybeAlign::Nothing => into_view_delta(range, view),
+    match target.align {
+        Some(align) => aligned_delta(align, target.range, view, offset),
+        None => into_view_delta(target.range, view),
     }
 }
 
 // Puts the target at the start, center or end of the view, spacing included: subtracted at the start, added at the end.
+#[tactic(auto, unfolding(crate::specs::Adjust::aligned_delta))]
 fn aligned_delta(align: Align, range: Rangef, view: AxisView, state_offset: f32) -> f32
     ensures { result ≡ Spec.aligned_delta align range view state_offset }
 {
@@ -114,6 +111,7 @@ fn aligned_delta(align: Align, range: Rangef, view: AxisView, state_offset: f32)
 }
 
 // Moves no further than it takes to see the target, and not at all where it is in view or sticks out on both sides.
+#[tactic(auto, unfolding(crate::specs::Adjust::into_view_delta))]
 fn into_view_delta(range: Rangef, view: AxisView) -> f32
     ensures { result ≡ Spec.into_view_delta range view }
 {
@@ -133,6 +131,7 @@ fn into_view_delta(range: Rangef, view: AxisView) -> f32
 }
 
 // An axis that is not enabled drops what its content asks for.
+#[tactic(auto, unfolding(crate::specs::Adjust::adjusted_by))]
 fn adjust_by(
     motion: AxisMotion,
     asked: AskedDelta,
@@ -152,70 +151,63 @@ fn adjust_by(
 }
 
 // Without animation the offset jumps, and a target under way stays and goes on in the next frame.
+#[tactic(auto, unfolding(crate::specs::Adjust::moved_by))]
 fn move_by(motion: AxisMotion, asked: AskedDelta, animated: bool, now: f64) -> Adjusted
     ensures { result ≡ Spec.moved_by motion asked animated now }
 {
     let target_offset = motion.offset + asked.delta;
-    let offset_target = motion.offset_target;
-    let animation = asked.animation;
     if !animated {
         return Adjusted {
             motion: AxisMotion {
                 offset: target_offset,
-                vel: motion.vel,
-                offset_target,
-                scroll_stuck_to_end: motion.scroll_stuck_to_end,
+                ..motion
             },
             had_explicit_scroll_adjustment: true,
         };
     }
-    let aimed = retarget(offset_target, target_offset, asked.delta, animation, now);
+    let offset_target = retarget(motion.offset_target, target_offset, asked, now);
     Adjusted {
         motion: AxisMotion {
-            offset: motion.offset,
-            vel: motion.vel,
-            offset_target: aimed,
-            scroll_stuck_to_end: motion.scroll_stuck_to_end,
+            offset_target: Some(offset_target),
+            ..motion
         },
         had_explicit_scroll_adjustment: true,
     }
 }
 
-// A target under way keeps its time, so that asking again in every frame does not start it anew. For a new one: the
-// further we scroll, the more time we take.
+// A target under way keeps its time, so that asking again in every frame does not start it anew. A new one
+// begins now.
+#[tactic(auto, unfolding(crate::specs::Adjust::retarget_of))]
 fn retarget(
-    offset_target: OffsetTarget,
+    offset_target: Option<ScrollingToTarget>,
     target_offset: f32,
-    delta: f32,
-    animation: ScrollAnimation,
+    asked: AskedDelta,
     now: f64,
-) -> OffsetTarget
-    ensures { result ≡ Spec.retarget_of offset_target target_offset delta animation now }
+) -> ScrollingToTarget
+    ensures { Some result ≡ Spec.retarget_of offset_target target_offset asked.delta asked.animation now }
 {
-    let target = offset_target.target;
-    match target {
-        MaybeTarget::Toward(to) => OffsetTarget {
-            target: MaybeTarget::Toward(ScrollingToTarget {
-                start: to.start,
-                end: to.end,
-                target_offset,
-            }),
+    match offset_target {
+        Some(to) => ScrollingToTarget {
+            target_offset,
+            ..to
         },
-        MaybeTarget::Nothing => {
-            let duration = animation.duration;
-            let seconds = clamp(
-                abs(delta) / animation.points_per_second,
-                duration.min,
-                duration.max,
-            );
-            let end = now + widen(seconds);
-            OffsetTarget {
-                target: MaybeTarget::Toward(ScrollingToTarget {
-                    start: now,
-                    end,
-                    target_offset,
-                }),
-            }
-        }
+        None => ScrollingToTarget {
+            start: now,
+            end: now + widen(duration_of(asked)),
+            target_offset,
+        },
     }
+}
+
+// The further we scroll, the more time we take.
+fn duration_of(asked: AskedDelta) -> f32
+    ensures { result ≡ Spec.animation_duration asked.delta asked.animation }
+{
+    let animation = asked.animation;
+    let duration = animation.duration;
+    clamp(
+        abs(asked.delta) / animation.points_per_second,
+        duration.min,
+        duration.max,
+    )
 }

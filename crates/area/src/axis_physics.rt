@@ -5,6 +5,7 @@ ghost use Rattle.area.specs.AxisPhysics as Spec;
 use axis::{AxisPhysics, KineticScrollStyle, scroll_bounds};
 
 // A rubber band only along an axis that has something to scroll.
+#[tactic(auto, unfolding(crate::specs::AxisPhysics::physics_of))]
 pub fn physics_of(
     kinetic: KineticScrollStyle,
     direction_enabled: bool,

@@ -1,116 +1,97 @@
 // One turn of the bar loop, after the sticking.
-ghost use Rattle.std.specs.Prelude.{◌≡◌, ◌<◌};
-ghost use Rattle.area.specs.Frame.{Whole, frame_of};
+ghost use Rattle.std.specs.Prelude.{◌≡◌};
+ghost use Rattle.numbers.specs.Axis.{index_of, other_of};
 ghost use Rattle.area.specs.Bar as Spec;
 
-use crate::frame::BarResponse;
-use crate::geometry::pick;
-use crate::handle::{BarSpace, Track, calculate_handle, handle_rect_of, show_factor_of, track_of};
-use crate::host_words;
+use crate::fields::BarResponse;
+use crate::frame::Frame;
+use crate::handle::{BarSpace, Track, handle_rect_of, show_factor_of, track_of};
 use crate::prepared::AxisMotion;
-use crate::press::press_axis;
-use crate::state::{MaybeRect, StartOffset, clamped};
-
-// An array holds structs, so the option stands in one.
-#[derive(Clone, Copy)]
-pub struct HandleRect {
-    pub rect: MaybeRect,
-}
+use crate::press::{Grip, press_axis};
+use crate::state::clamped;
+use numbers::{Axis, Rect};
 
 // One axis after its bar.
-#[derive(Clone, Copy)]
+#[derive(Clone, Copy, Debug, PartialEq)]
 pub struct Barred {
     pub motion: AxisMotion,
-    pub press: StartOffset,
+    pub press: Option<f32>,
     pub scroll_bar_interaction: bool,
-    pub handle: HandleRect,
+    pub handle: Option<Rect>,
     // Check 7 applies.
+    // Stays: a flag, as in Pressed.
     pub is_press_blocked: bool,
 }
 
 // Brings the offset back into range and stops the motion there, unless a rubber band holds it outside.
+#[tactic(auto, unfolding(crate::specs::Bar::bound_motion_of, crate::specs::Geometry::pick_of))]
 fn bound_motion(m: AxisMotion, rubber_banding: bool, max_offset: f32) -> AxisMotion
     ensures { result ≡ Spec.bound_motion_of m rubber_banding max_offset }
 {
     if rubber_banding {
         return m;
     }
-    let offset_target = m.offset_target;
     let offset = clamped(m.offset, max_offset);
-    let vel = pick(offset != m.offset, 0.0, m.vel);
     AxisMotion {
         offset,
-        vel,
-        offset_target,
-        scroll_stuck_to_end: m.scroll_stuck_to_end,
+        vel: if offset != m.offset { 0.0 } else { m.vel },
+        ..m
     }
 }
 
 // A bar in sight. The handle handed out is the one after the press and the clamp, so it does not lag by a frame.
+#[tactic(auto, unfolding(crate::specs::Bar::shown_bar))]
 fn show_bar(
     m: AxisMotion,
     t: Track,
     rubber_banding: bool,
-    stored: StartOffset,
+    stored: Option<f32>,
     response: BarResponse,
-    d: usize,
+    d: Axis,
 ) -> Barred
-    ensures { result ≡ Spec.shown_bar m t rubber_banding stored response d }
+    ensures { result ≡ Spec.shown_bar m t rubber_banding stored response (index_of d) }
 {
-    let point = response.press;
-    let pressed = press_axis(m, t, calculate_handle(t, m.offset), stored, point, d);
+    let grip = Grip {
+        track: t,
+        handle: t.calculate_handle(m.offset),
+        d,
+    };
+    let pressed = press_axis(m, grip, stored, response.press);
     let motion = bound_motion(pressed.motion, rubber_banding, t.max_offset);
-    let rect = handle_rect_of(calculate_handle(t, motion.offset), t.cross, d);
-    let press = pressed.press;
+    let rect = handle_rect_of(t.calculate_handle(motion.offset), t.cross, d);
     Barred {
         motion,
-        press,
+        press: pressed.press,
         scroll_bar_interaction: response.hovered | response.dragged,
-        handle: HandleRect {
-            rect: MaybeRect::Some(rect),
-        },
+        handle: Some(rect),
         is_press_blocked: pressed.is_press_blocked,
     }
 }
 
-// The bar of axis d; e is the other axis.
+// The bar of axis d.
+#[tactic(auto, unfolding(crate::specs::Bar::bar_of, crate::specs::Bar::turn_bar))]
 pub fn bar_axis(
-    frame: &[u8],
-    d: usize,
-    e: usize,
+    frame: &Frame,
+    d: Axis,
     space: BarSpace,
     show_scroll: bool,
     rubber_banding: bool,
-    stored: StartOffset,
+    stored: Option<f32>,
     m: AxisMotion,
 ) -> Barred
-    requires { Whole frame.now × (d < 2) × (e < 2) }
-    ensures { result ≡ Spec.bar_of (frame_of frame.now) d e space show_scroll rubber_banding stored m }
+    ensures { result ≡ Spec.bar_of frame.now (index_of d) (index_of (other_of d)) space show_scroll rubber_banding stored m }
 {
-    let show_factor = show_factor_of(
-        show_scroll,
-        host_words::bar_factor(frame, d),
-        host_words::opening_factor(frame, d),
-    );
+    let show_factor = show_factor_of(show_scroll, frame.bar_factor(d), frame.opening_factor(d));
     // A bar with factor 0 moves nothing; a press stored on it stays stored.
     if show_factor == 0.0 {
         return Barred {
             motion: m,
             press: stored,
             scroll_bar_interaction: false,
-            handle: HandleRect {
-                rect: MaybeRect::Nothing,
-            },
+            handle: None,
             is_press_blocked: false,
         };
     }
-    let t = track_of(frame, d, e, space, show_factor);
-    show_bar(
-        m,
-        t,
-        rubber_banding,
-        stored,
-        host_words::bar_response(frame, d),
-        d,
-    )
+    let t = track_of(frame, d, space, show_factor);
+    show_bar(m, t, rubber_banding, stored, frame.bar_response(d), d)
 }

@@ -1,51 +1,53 @@
 // The frame call.
 ghost use Rattle.std.specs.Prelude.{◌≡◌};
 ghost use Rattle.numbers.specs.Table.{table_at, table_of};
-ghost use Rattle.area.specs.Frame.{Whole, frame_of};
 ghost use Rattle.area.specs.Call as Spec;
+ghost use Rattle.area.specs.Outcome.{answer_in};
 ghost use Rattle.area.specs.Lists.{FrameSays};
 
 use crate::begin::begin;
-use crate::checks::refusal_before_7;
+use crate::checks::check_before_7;
 use crate::end::{end, is_press_blocked};
-use crate::outcome::{Answer, is_answer_finite, refused};
-use crate::put_out::answer_of;
+use crate::frame::Frame;
+use crate::outcome::Accepted;
+use crate::put_out::accepted_of;
 use crate::state::State;
+use numbers::Finite;
+use refusals::Refusal;
 
 // One frame on a state, by table T; otherwise as frame_by.
-pub fn frame_call(state: State, bytes: &[u8]) -> Answer
-    ensures { FrameSays table_at state bytes.now result }
+// Stays: beside frame_by. It is public and goes on promising T, and a caller with no table names none.
+#[tactic(auto, unfolding(numbers::specs::Table::table_of))]
+pub fn frame_call(state: State, bytes: &[u8]) -> Result<Accepted, Refusal>
+    ensures { FrameSays table_at state bytes.now (answer_in state result) }
 {
-    let none: [u8; 0] = [];
-    frame_by(state, bytes, &none)
+    frame_by(state, bytes, &[])
 }
 
-// One frame on a state, by a table that is lent: the checks, then both halves. A refusal hands the state back as given.
+// One frame on a state, by a table that is lent: the checks, then both halves. A refusal leaves the caller the state that it gave.
 // Bytes of any length other than a table's stand for T.
-pub fn frame_by(state: State, bytes: &[u8], table: &[u8]) -> Answer
-    ensures { FrameSays (table_of table.now) state bytes.now result }
+// Stays: a table as bytes. An Option of 8,200 would turn back bytes that are accepted.
+#[tactic(auto, using(refusals::proofs::Refused::not_0), unfolding(crate::specs::Call::call_under))]
+pub fn frame_by(state: State, bytes: &[u8], table: &[u8]) -> Result<Accepted, Refusal>
+    ensures { FrameSays (table_of table.now) state bytes.now (answer_in state result) }
 {
-    let refusal = refusal_before_7(bytes, state);
-    let accepted = refusal == 0;
-    if accepted {
-        return run(state, bytes, table);
-    }
-    refused(state, refusal)
+    let frame = check_before_7(bytes, state)?;
+    run(state, &frame, table)
 }
 
 // `begin`, then `end`; 7 goes before 8.
-fn run(state: State, frame: &[u8], table: &[u8]) -> Answer
-    requires { Whole frame.now }
-    ensures { result ≡ Spec.run_of (table_of table.now) state (frame_of frame.now) }
+#[tactic(auto, unfolding(crate::specs::Call::run_of))]
+fn run(state: State, frame: &Frame, table: &[u8]) -> Result<Accepted, Refusal>
+    ensures { answer_in state result ≡ Spec.run_of (table_of table.now) state frame.now }
 {
     let prepared = begin(frame, state, table);
     let ended = end(frame, state, prepared);
     if is_press_blocked(ended) {
-        return refused(state, 7);
+        return Err(Refusal::PressBlocked);
     }
-    let answer = answer_of(frame, state, prepared, ended);
-    if is_answer_finite(answer) {
-        return answer;
+    let accepted = accepted_of(frame, state, prepared, ended);
+    if accepted.all_finite() {
+        return Ok(accepted);
     }
-    refused(state, 8)
+    Err(Refusal::Outcome)
 }

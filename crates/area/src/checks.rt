@@ -1,124 +1,85 @@
 // Checks 1 to 5 on a frame's bytes, whether or not the steps read them, check 6 on a state, and all that goes before 7.
-ghost use Rattle.std.specs.Prelude.{◌≡◌};
+ghost use Rattle.std.specs.Prelude.{◌≡◌, IfOk};
+ghost use Rattle.refusals.specs.Refusal.{number_in};
+ghost use Rattle.numbers.specs.Finite.{option_finite};
+ghost use Rattle.area.specs.Frame.{frame_of};
 ghost use Rattle.area.specs.Checks as Spec;
 
-use crate::clock::clock_refusal;
-use crate::state::{MaybePress, MaybeRect, MaybeTarget, OffsetTarget, StartOffset, State};
+use crate::clock::check_clock;
+use crate::frame::Frame;
+use crate::state::{ScrollingToTarget, State};
 use crate::sweep::sweep_words;
-use numbers::{is_finite, is_finite_f64};
+use numbers::Finite;
+use refusals::Refusal;
 
-// The first that applies of 1 to 6 and 12, or 0.
-pub fn refusal_before_7(frame: &[u8], state: State) -> u32
-    ensures { result ≡ Spec.refusal_before7 frame.now state }
+// The frame, unless one of 1 to 6 and 12 applies.
+#[tactic(auto, using(refusals::proofs::Refused::not_0), unfolding(crate::specs::Checks::refusal_before7, crate::specs::Clock::clock_refusal, crate::specs::Frame::frame_of, crate::specs::Frame::host_of))]
+pub fn check_before_7<'a>(bytes: &'a [u8], state: State) -> Result<Frame<'a>, Refusal>
+    ensures refuses { number_in result ≡ Spec.refusal_before7 bytes.now state }
+    ensures reads { IfOk result (λ frame. frame ≡ frame_of bytes.now) }
 {
-    let number = refusal_of(frame, state);
-    let passed = number == 0;
-    if passed {
-        return clock_refusal(frame, state);
-    }
-    number
+    let frame = Frame::new(check(bytes, state)?);
+    check_clock(&frame, state)?;
+    Ok(frame)
 }
 
-// The lowest of 1 to 6 that applies, or 0.
-pub fn refusal_of(frame: &[u8], state: State) -> u32
-    ensures { result ≡ Spec.refusal_of frame.now state }
+// The frame's bytes, unless one of 1 to 6 applies.
+#[tactic(auto, using(refusals::proofs::Refused::not_0), unfolding(crate::specs::Checks::refusal_of))]
+pub fn check<'a>(bytes: &'a [u8], state: State) -> Result<&'a [u8; 416], Refusal>
+    ensures refuses { number_in result ≡ Spec.refusal_of bytes.now state }
+    ensures keeps { IfOk result (λ frame. frame.now ≡ bytes.now) }
 {
-    let number = frame_refusal(frame);
-    let passed = number == 0;
-    if passed {
-        return state_refusal(state);
-    }
-    number
+    let frame = check_frame(bytes)?;
+    check_state(state)?;
+    Ok(frame)
 }
 
-// The lowest of 1 to 5 that applies, or 0: what the walk over all words keeps.
-pub fn frame_refusal(frame: &[u8]) -> u32
-    ensures { result ≡ Spec.frame_refusal frame.now }
+// The frame's bytes, unless one of 1 to 5 applies: what the walk over all words keeps.
+#[tactic(auto, using(crate::proofs::CallLaws::wrong_length))]
+pub fn check_frame<'a>(bytes: &'a [u8]) -> Result<&'a [u8; 416], Refusal>
+    ensures refuses { number_in result ≡ Spec.frame_refusal bytes.now }
+    ensures keeps { IfOk result (λ frame. frame.now ≡ bytes.now) }
 {
-    let swept = sweep_words(frame, 104);
-    swept.kept
+    let Ok(frame) = <&[u8; 416]>::try_from(bytes) else {
+        return Err(Refusal::FrameLength);
+    };
+    match sweep_words(bytes, 104).kept {
+        None => Ok(frame),
+        Some(refusal) => Err(refusal),
+    }
 }
 
 // Check 6.
-pub fn state_refusal(state: State) -> u32
-    ensures { result ≡ Spec.state_refusal state }
+#[tactic(auto, unfolding(crate::specs::Checks::state_refusal))]
+fn check_state(state: State) -> Result<(), Refusal>
+    ensures { number_in result ≡ Spec.state_refusal state }
 {
-    if is_state_finite(state) {
-        return 0;
+    if state.all_finite() {
+        return Ok(());
     }
-    6
+    Err(Refusal::State)
+}
+
+impl Finite for ScrollingToTarget {
+    ghost finite = { Spec.is_span_finite };
+
+    fn all_finite(self) -> bool {
+        self.start.all_finite() & self.end.all_finite() & self.target_offset.all_finite()
+    }
 }
 
 // Every number that the state holds.
-pub fn is_state_finite(state: State) -> bool
-    ensures { result ≡ Spec.is_state_finite state }
-{
-    let offset = state.offset;
-    let max_offset = state.max_offset;
-    let targets = state.offset_target;
-    let vel = state.vel;
-    let presses = state.scroll_start_offset_from_top_left;
-    let rect = state.interact_rect;
-    let remembered_time = state.remembered_time;
-    is_pair_finite(offset)
-        & is_pair_finite(max_offset)
-        & are_targets_finite(targets)
-        & is_pair_finite(vel)
-        & are_presses_finite(presses)
-        & is_rect_finite(rect)
-        & is_finite_f64(remembered_time)
-}
+impl Finite for State {
+    ghost finite = { Spec.is_state_finite };
 
-pub fn is_pair_finite(v: [f32; 2]) -> bool
-    ensures { result ≡ Spec.is_pair_finite v }
-{
-    is_finite(v[0]) & is_finite(v[1])
-}
-
-fn are_targets_finite(t: [OffsetTarget; 2]) -> bool
-    ensures { result ≡ Spec.are_targets_finite t }
-{
-    is_target_finite(t[0]) & is_target_finite(t[1])
-}
-
-fn is_target_finite(t: OffsetTarget) -> bool
-    ensures { result ≡ Spec.is_target_finite t }
-{
-    let target = t.target;
-    match target {
-        MaybeTarget::Nothing => true,
-        MaybeTarget::Toward(to) => {
-            is_finite_f64(to.start) & is_finite_f64(to.end) & is_finite(to.target_offset)
-        }
-    }
-}
-
-fn are_presses_finite(p: [StartOffset; 2]) -> bool
-    ensures { result ≡ Spec.are_presses_finite p }
-{
-    is_press_finite(p[0]) & is_press_finite(p[1])
-}
-
-fn is_press_finite(p: StartOffset) -> bool
-    ensures { result ≡ Spec.is_press_finite p }
-{
-    let press = p.press;
-    match press {
-        MaybePress::Nothing => true,
-        MaybePress::At(offset) => is_finite(offset),
-    }
-}
-
-pub fn is_rect_finite(r: MaybeRect) -> bool
-    ensures { result ≡ Spec.is_rect_finite r }
-{
-    match r {
-        MaybeRect::Nothing => true,
-        MaybeRect::Some(rect) => {
-            is_finite(rect.min.x)
-                & is_finite(rect.min.y)
-                & is_finite(rect.max.x)
-                & is_finite(rect.max.y)
-        }
+    #[tactic(auto, unfolding(crate::specs::Checks::is_state_finite, crate::specs::Checks::is_pair_finite, crate::specs::Checks::are_targets_finite, crate::specs::Checks::are_presses_finite, crate::specs::Checks::is_rect_finite))]
+    fn all_finite(self) -> bool {
+        self.offset.all_finite()
+            & self.max_offset.all_finite()
+            & self.offset_target.all_finite()
+            & self.vel.all_finite()
+            & self.scroll_start_offset_from_top_left.all_finite()
+            & self.interact_rect.all_finite()
+            & self.remembered_time.all_finite()
     }
 }

@@ -1,18 +1,16 @@
 // What a word or some words in a row stand for. They are numbered from 1, as in the document.
-ghost use Rattle.std.specs.Prelude.{◌≡◌, ◌<◌};
-ghost use Rattle.area.specs.Pair.{num, flag};
-ghost use Rattle.area.specs.Space.{side_of};
+ghost use Rattle.std.specs.Prelude.{◌≡◌, ℕ, ◌+◌, List, from_bits, ◌==◌, slice_index_or};
+ghost use Rattle.std.specs.Float.{binary32};
+ghost use Rattle.numbers.specs.Axis.{index_of};
+ghost use Rattle.axis.specs.Wheel.{source_of};
 ghost use Rattle.area.specs.Frame as Spec;
 
-use crate::frame::{
-    BarResponse, DragScroll, GivenOffset, MaybeAlign, MaybeNumber, MaybePos2, MaybeScrollTarget,
-    ScrollAnimation, ScrollBarVisibility, ScrollTarget, TargetRequest,
-};
-use crate::state::MaybeRect;
+use crate::fields::{BarResponse, DragScroll, ScrollAnimation, ScrollBarVisibility, ScrollTarget};
 use axis::WheelSource;
-use numbers::{Align, Pos2, Rangef, Rect};
+use numbers::{Align, Axis, Ieee, Pos2, Rangef, Rect};
 
 // Word n.
+#[tactic(auto, unfolding(crate::specs::Frame::word_no))]
 pub fn word_at(s: &[u8], n: u32) -> u32
     requires { Spec.Holds s.now n 0 }
     ensures { result ≡ Spec.word_no s.now n }
@@ -20,253 +18,253 @@ pub fn word_at(s: &[u8], n: u32) -> u32
     words::word_in(s, n - 1)
 }
 
-pub fn number_at(s: &[u8], n: u32) -> f32
-    requires { Spec.Holds s.now n 0 }
-    ensures { result ≡ Spec.number_no s.now n }
-{
-    numbers::f32_of_bits(word_at(s, n))
+// What one word stands for. A kind past its last value is turned back by check 2, and reads as the last.
+pub trait OfWord: Copy {
+    ghost of: { ℕ → Self };
+
+    fn of_word(word: u32) -> Self
+        ensures { result ≡ of word };
 }
 
-pub fn flag_at(s: &[u8], n: u32) -> bool
+impl OfWord for f32 {
+    ghost of = { from_bits binary32 };
+
+    fn of_word(word: u32) -> Self {
+        f32::of_bits(word)
+    }
+}
+
+impl OfWord for bool {
+    ghost of = { λ word. word == 1 };
+
+    fn of_word(word: u32) -> Self {
+        word == 1
+    }
+}
+
+impl OfWord for ScrollBarVisibility {
+    ghost of = { Spec.visibility_of };
+
+    fn of_word(word: u32) -> Self {
+        match word {
+            0 => ScrollBarVisibility::AlwaysHidden,
+            1 => ScrollBarVisibility::VisibleWhenNeeded,
+            _ => ScrollBarVisibility::AlwaysVisible,
+        }
+    }
+}
+
+impl OfWord for DragScroll {
+    ghost of = { Spec.drag_of };
+
+    fn of_word(word: u32) -> Self {
+        match word {
+            0 => DragScroll::Never,
+            1 => DragScroll::OnTouch,
+            _ => DragScroll::Always,
+        }
+    }
+}
+
+impl OfWord for Option<WheelSource> {
+    ghost of = { source_of };
+
+    fn of_word(word: u32) -> Self {
+        WheelSource::from_word(word)
+    }
+}
+
+impl OfWord for Option<Align> {
+    ghost of = { Spec.align_of };
+
+    fn of_word(word: u32) -> Self {
+        match word {
+            0 => None,
+            1 => Some(Align::Min),
+            2 => Some(Align::Center),
+            _ => Some(Align::Max),
+        }
+    }
+}
+
+// What word n stands for.
+#[tactic(auto, unfolding(crate::specs::Frame::kind_no))]
+pub fn kind_at<T: OfWord>(s: &[u8], n: u32) -> T
     requires { Spec.Holds s.now n 0 }
-    ensures { result ≡ Spec.flag_no s.now n }
+    ensures { result ≡ Spec.kind_no T.of s.now n }
 {
-    word_at(s, n) == 1
+    T::of_word(word_at(s, n))
+}
+
+// What the word of axis d stands for, of the two from word n on.
+#[tactic(auto, unfolding(crate::specs::Frame::both_no, crate::specs::Frame::kind_no))]
+pub fn kind_along<T: OfWord>(s: &[u8], n: u32, d: Axis) -> T
+    requires { Spec.Holds s.now n 1 }
+    ensures { (otherwise : _) → result ≡ slice_index_or (Spec.both_no T.of s.now n) (index_of d) otherwise }
+{
+    match d {
+        Axis::X => kind_at(s, n),
+        Axis::Y => kind_at(s, n + 1),
+    }
+}
+
+// Stays: `Holds` at each reading. A record of another length is read by the same functions as a frame, so no length stands in the type.
+// What words in a row stand for, from word n on; `more` is how many there are after the first.
+pub trait FromWords: Copy {
+    ghost more: { ℕ };
+
+    ghost read: { List ℕ → ℕ → Self };
+
+    fn at(s: &[u8], n: u32) -> Self
+        requires { Spec.Holds s.now n more }
+        ensures { result ≡ read s.now n };
+}
+
+impl FromWords for f32 {
+    ghost more = { 0 };
+
+    ghost read = { Spec.number_no };
+
+    #[tactic(auto, unfolding(crate::specs::Frame::number_no, crate::specs::Frame::kind_no))]
+    fn at(s: &[u8], n: u32) -> Self {
+        kind_at(s, n)
+    }
+}
+
+impl FromWords for bool {
+    ghost more = { 0 };
+
+    ghost read = { Spec.flag_no };
+
+    #[tactic(auto, unfolding(crate::specs::Frame::flag_no, crate::specs::Frame::kind_no))]
+    fn at(s: &[u8], n: u32) -> Self {
+        kind_at(s, n)
+    }
 }
 
 // An f64, low word first.
-pub fn time_at(s: &[u8], n: u32) -> f64
-    requires { Spec.Holds s.now n 1 }
-    ensures { result ≡ Spec.time_no s.now n }
-{
-    let low = word_at(s, n);
-    let high = word_at(s, n + 1);
-    numbers::f64_of_bits((high as u64) * 4294967296 + (low as u64))
-}
+impl FromWords for f64 {
+    ghost more = { 1 };
 
-pub fn pair_at(s: &[u8], n: u32) -> [f32; 2]
-    requires { Spec.Holds s.now n 1 }
-    ensures { result ≡ Spec.pair_no s.now n }
-{
-    [number_at(s, n), number_at(s, n + 1)]
-}
+    ghost read = { Spec.time_no };
 
-pub fn flags_at(s: &[u8], n: u32) -> [bool; 2]
-    requires { Spec.Holds s.now n 1 }
-    ensures { result ≡ Spec.flags_no s.now n }
-{
-    [flag_at(s, n), flag_at(s, n + 1)]
-}
-
-// Number d of the pair at word n.
-pub fn number_along(s: &[u8], n: u32, d: usize) -> f32
-    requires { Spec.Holds s.now n 1 × (d < 2) }
-    ensures { result ≡ num (Spec.pair_no s.now n) d }
-{
-    number_at(s, n + (d as u32))
-}
-
-// Flag d of the two at word n.
-pub fn flag_along(s: &[u8], n: u32, d: usize) -> bool
-    requires { Spec.Holds s.now n 1 × (d < 2) }
-    ensures { result ≡ flag (Spec.flags_no s.now n) d }
-{
-    flag_at(s, n + (d as u32))
-}
-
-// The side along axis d of the rectangle at word n.
-pub fn side_along(s: &[u8], n: u32, d: usize) -> Rangef
-    requires { Spec.Holds s.now n 3 × (d < 2) }
-    ensures { result ≡ side_of (Spec.rect_no s.now n) d }
-{
-    Rangef {
-        min: number_along(s, n, d),
-        max: number_along(s, n + 2, d),
+    #[tactic(auto, unfolding(crate::specs::Frame::time_no))]
+    fn at(s: &[u8], n: u32) -> Self {
+        let low = word_at(s, n);
+        let high = word_at(s, n + 1);
+        f64::of_bits(u64::from(high) * 4294967296 + u64::from(low))
     }
 }
 
-fn pos2_at(s: &[u8], n: u32) -> Pos2
-    requires { Spec.Holds s.now n 1 }
-    ensures { result ≡ Spec.pos2_no s.now n }
-{
-    Pos2 {
-        x: number_at(s, n),
-        y: number_at(s, n + 1),
+impl<T: OfWord> FromWords for [T; 2] {
+    ghost more = { 1 };
+
+    ghost read = { Spec.both_no T.of };
+
+    #[tactic(auto, unfolding(crate::specs::Frame::both_no, crate::specs::Frame::kind_no))]
+    fn at(s: &[u8], n: u32) -> Self {
+        [kind_at(s, n), kind_at(s, n + 1)]
     }
 }
 
-pub fn rect_at(s: &[u8], n: u32) -> Rect
-    requires { Spec.Holds s.now n 3 }
-    ensures { result ≡ Spec.rect_no s.now n }
-{
-    Rect {
-        min: pos2_at(s, n),
-        max: pos2_at(s, n + 2),
+// A flag, then the words, which are not heeded where the flag is off.
+impl<T: FromWords> FromWords for Option<T> {
+    ghost more = { T.more + 1 };
+
+    ghost read = { Spec.option_no T.read };
+
+    #[tactic(auto, unfolding(crate::specs::Frame::option_no))]
+    fn at(s: &[u8], n: u32) -> Self {
+        if bool::at(s, n) {
+            Some(T::at(s, n + 1))
+        } else {
+            None
+        }
     }
 }
 
-fn rangef_at(s: &[u8], n: u32) -> Rangef
-    requires { Spec.Holds s.now n 1 }
-    ensures { result ≡ Spec.rangef_no s.now n }
-{
-    Rangef {
-        min: number_at(s, n),
-        max: number_at(s, n + 1),
+impl FromWords for Pos2 {
+    ghost more = { 1 };
+
+    ghost read = { Spec.pos2_no };
+
+    #[tactic(auto, unfolding(crate::specs::Frame::pos2_no))]
+    fn at(s: &[u8], n: u32) -> Self {
+        Pos2 {
+            x: f32::at(s, n),
+            y: f32::at(s, n + 1),
+        }
     }
 }
 
-pub fn given_offset_at(s: &[u8], n: u32) -> GivenOffset
-    requires { Spec.Holds s.now n 1 }
-    ensures { result ≡ Spec.given_offset_no s.now n }
-{
-    if flag_at(s, n) {
-        return GivenOffset {
-            number: MaybeNumber::Some(number_at(s, n + 1)),
-        };
-    }
-    GivenOffset {
-        number: MaybeNumber::Nothing,
+impl FromWords for Rect {
+    ghost more = { 3 };
+
+    ghost read = { Spec.rect_no };
+
+    #[tactic(auto, unfolding(crate::specs::Frame::rect_no))]
+    fn at(s: &[u8], n: u32) -> Self {
+        Rect {
+            min: Pos2::at(s, n),
+            max: Pos2::at(s, n + 2),
+        }
     }
 }
 
-pub fn maybe_pos2_at(s: &[u8], n: u32) -> MaybePos2
-    requires { Spec.Holds s.now n 2 }
-    ensures { result ≡ Spec.maybe_pos2_no s.now n }
-{
-    if flag_at(s, n) {
-        return MaybePos2::Some(pos2_at(s, n + 1));
-    }
-    MaybePos2::Nothing
-}
+impl FromWords for Rangef {
+    ghost more = { 1 };
 
-pub fn maybe_rect_at(s: &[u8], n: u32) -> MaybeRect
-    requires { Spec.Holds s.now n 4 }
-    ensures { result ≡ Spec.maybe_rect_no s.now n }
-{
-    if flag_at(s, n) {
-        return MaybeRect::Some(rect_at(s, n + 1));
-    }
-    MaybeRect::Nothing
-}
+    ghost read = { Spec.rangef_no };
 
-pub fn bar_response_at(s: &[u8], n: u32) -> BarResponse
-    requires { Spec.Holds s.now n 4 }
-    ensures { result ≡ Spec.bar_response_no s.now n }
-{
-    BarResponse {
-        hovered: flag_at(s, n),
-        dragged: flag_at(s, n + 1),
-        press: maybe_pos2_at(s, n + 2),
+    #[tactic(auto, unfolding(crate::specs::Frame::rangef_no))]
+    fn at(s: &[u8], n: u32) -> Self {
+        Rangef {
+            min: f32::at(s, n),
+            max: f32::at(s, n + 1),
+        }
     }
 }
 
-pub fn animation_at(s: &[u8], n: u32) -> ScrollAnimation
-    requires { Spec.Holds s.now n 2 }
-    ensures { result ≡ Spec.animation_no s.now n }
-{
-    ScrollAnimation {
-        points_per_second: number_at(s, n),
-        duration: rangef_at(s, n + 1),
+impl FromWords for BarResponse {
+    ghost more = { 4 };
+
+    ghost read = { Spec.bar_response_no };
+
+    #[tactic(auto, unfolding(crate::specs::Frame::bar_response_no))]
+    fn at(s: &[u8], n: u32) -> Self {
+        BarResponse {
+            hovered: bool::at(s, n),
+            dragged: bool::at(s, n + 1),
+            press: Option::at(s, n + 2),
+        }
     }
 }
 
-fn scroll_target_at(s: &[u8], n: u32) -> ScrollTarget
-    requires { Spec.Holds s.now n 5 }
-    ensures { result ≡ Spec.scroll_target_no s.now n }
-{
-    ScrollTarget {
-        range: rangef_at(s, n),
-        align: align_at(s, n + 2),
-        animation: animation_at(s, n + 3),
+impl FromWords for ScrollAnimation {
+    ghost more = { 2 };
+
+    ghost read = { Spec.animation_no };
+
+    #[tactic(auto, unfolding(crate::specs::Frame::animation_no))]
+    fn at(s: &[u8], n: u32) -> Self {
+        ScrollAnimation {
+            points_per_second: f32::at(s, n),
+            duration: Rangef::at(s, n + 1),
+        }
     }
 }
 
-pub fn target_request_at(s: &[u8], n: u32) -> TargetRequest
-    requires { Spec.Holds s.now n 6 }
-    ensures { result ≡ Spec.target_request_no s.now n }
-{
-    if flag_at(s, n) {
-        return TargetRequest {
-            target: MaybeScrollTarget::Some(scroll_target_at(s, n + 1)),
-        };
-    }
-    TargetRequest {
-        target: MaybeScrollTarget::Nothing,
-    }
-}
+impl FromWords for ScrollTarget {
+    ghost more = { 5 };
 
-pub fn visibility_at(s: &[u8], n: u32) -> ScrollBarVisibility
-    requires { Spec.Holds s.now n 0 }
-    ensures { result ≡ Spec.visibility_no s.now n }
-{
-    let w = word_at(s, n);
-    let hidden = w == 0;
-    if hidden {
-        return ScrollBarVisibility::AlwaysHidden;
-    }
-    let needed = w == 1;
-    if needed {
-        return ScrollBarVisibility::VisibleWhenNeeded;
-    }
-    ScrollBarVisibility::AlwaysVisible
-}
+    ghost read = { Spec.scroll_target_no };
 
-pub fn drag_at(s: &[u8], n: u32) -> DragScroll
-    requires { Spec.Holds s.now n 0 }
-    ensures { result ≡ Spec.drag_no s.now n }
-{
-    let w = word_at(s, n);
-    let never = w == 0;
-    if never {
-        return DragScroll::Never;
+    #[tactic(auto, unfolding(crate::specs::Frame::scroll_target_no))]
+    fn at(s: &[u8], n: u32) -> Self {
+        ScrollTarget {
+            range: Rangef::at(s, n),
+            align: kind_at(s, n + 2),
+            animation: ScrollAnimation::at(s, n + 3),
+        }
     }
-    let on_touch = w == 1;
-    if on_touch {
-        return DragScroll::OnTouch;
-    }
-    DragScroll::Always
-}
-
-pub fn source_at(s: &[u8], n: u32) -> WheelSource
-    requires { Spec.Holds s.now n 0 }
-    ensures { result ≡ Spec.source_no s.now n }
-{
-    let w = word_at(s, n);
-    let nothing = w == 0;
-    if nothing {
-        return WheelSource::Nothing;
-    }
-    let unknown = w == 1;
-    if unknown {
-        return WheelSource::Unknown;
-    }
-    let wheel = w == 2;
-    if wheel {
-        return WheelSource::Wheel;
-    }
-    let trackpad = w == 3;
-    if trackpad {
-        return WheelSource::Trackpad;
-    }
-    WheelSource::Momentum
-}
-
-fn align_at(s: &[u8], n: u32) -> MaybeAlign
-    requires { Spec.Holds s.now n 0 }
-    ensures { result ≡ Spec.align_no s.now n }
-{
-    let w = word_at(s, n);
-    let nothing = w == 0;
-    if nothing {
-        return MaybeAlign::Nothing;
-    }
-    let min = w == 1;
-    if min {
-        return MaybeAlign::Some(Align::Min);
-    }
-    let center = w == 2;
-    if center {
-        return MaybeAlign::Some(Align::Center);
-    }
-    MaybeAlign::Some(Align::Max)
 }

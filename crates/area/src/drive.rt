@@ -1,19 +1,18 @@
 // How a frame begins to move one axis: the host's explicit offset, then the hand on the content or the axis's own motion.
-ghost use Rattle.std.specs.Prelude.{◌≡◌, ◌<◌};
+ghost use Rattle.std.specs.Prelude.{◌≡◌};
+ghost use Rattle.numbers.specs.Axis.{index_of};
 ghost use Rattle.numbers.specs.Table.{table_of};
-ghost use Rattle.area.specs.Frame.{Whole, frame_of};
 ghost use Rattle.area.specs.Drive as Spec;
 
-use crate::frame::{GivenOffset, MaybeNumber};
-use crate::pair::{flag, num};
+use crate::frame::Frame;
 use crate::prepared::{AxisBefore, AxisBegun, AxisMotion};
-use crate::settings_words;
-use crate::state::{MaybeTarget, OffsetTarget, State};
+use crate::state::State;
 use axis::AxisPhysics;
-use numbers::flag_as_number;
+use numbers::{Axis, along, flag_as_number};
 
 // What the hand does on one axis. It drags, or has just let go, only where there is a response to a drag of the background.
-#[derive(Clone, Copy)]
+// Stays: flags beside numbers. The pointer's delta and velocity are there without them, as the Rust reads them.
+#[derive(Clone, Copy, Debug, PartialEq)]
 pub struct AxisInput {
     pub direction_enabled: bool,
     pub dragged: bool,
@@ -25,56 +24,35 @@ pub struct AxisInput {
 }
 
 // The motion of axis d, from where the host puts it.
-pub fn open_motion(frame: &[u8], state: State, d: usize) -> AxisMotion
-    requires { Whole frame.now × (d < 2) }
-    ensures { result ≡ Spec.opened_of (frame_of frame.now).settings state d }
+#[tactic(auto, unfolding(crate::specs::Drive::opened_of, crate::specs::Drive::given_offset_or))]
+pub fn open_motion(frame: &Frame, state: State, d: Axis) -> AxisMotion
+    ensures { result ≡ Spec.opened_of frame.now.settings state (index_of d) }
 {
-    let targets = state.offset_target;
-    let offset_target = targets[d];
-    let offsets = state.offset;
-    let stored = num(offsets, d);
-    let velocities = state.vel;
-    let vel = num(velocities, d);
-    let stuck = state.scroll_stuck_to_end;
-    let scroll_stuck_to_end = flag(stuck, d);
+    let stored = along(state.offset, d);
     AxisMotion {
-        offset: given_offset_or(settings_words::given_offset(frame, d), stored),
-        vel,
-        offset_target,
-        scroll_stuck_to_end,
+        // The host's offset wins over the stored one.
+        offset: frame.given_offset(d).unwrap_or(stored),
+        vel: along(state.vel, d),
+        offset_target: along(state.offset_target, d),
+        scroll_stuck_to_end: along(state.scroll_stuck_to_end, d),
     }
 }
 
 // What else the last frame left on axis d.
-pub fn before_of(state: State, d: usize) -> AxisBefore
-    requires { d < 2 }
-    ensures { result ≡ Spec.before_of state d }
+#[tactic(auto, unfolding(crate::specs::Drive::before_of))]
+pub fn before_of(state: State, d: Axis) -> AxisBefore
+    ensures { result ≡ Spec.before_of state (index_of d) }
 {
-    let max_offsets = state.max_offset;
-    let too_large = state.content_is_too_large;
-    let bounces = state.bounced_this_momentum;
-    let presses = state.scroll_start_offset_from_top_left;
-    let press = presses[d];
     AxisBefore {
-        max_offset: num(max_offsets, d),
-        content_is_too_large: flag(too_large, d),
-        bounced_this_momentum: flag(bounces, d),
-        press,
-    }
-}
-
-// The host's offset wins over the stored one.
-fn given_offset_or(given: GivenOffset, offset: f32) -> f32
-    ensures { result ≡ Spec.given_offset_or given offset }
-{
-    let number = given.number;
-    match number {
-        MaybeNumber::Nothing => offset,
-        MaybeNumber::Some(x) => x,
+        max_offset: along(state.max_offset, d),
+        content_is_too_large: along(state.content_is_too_large, d),
+        bounced_this_momentum: along(state.bounced_this_momentum, d),
+        press: along(state.scroll_start_offset_from_top_left, d),
     }
 }
 
 // The content goes with the hand; let alone, it coasts or springs back.
+#[tactic(auto, unfolding(crate::specs::Drive::driven_of))]
 pub fn drive(motion: AxisMotion, physics: AxisPhysics, input: AxisInput, table: &[u8]) -> AxisBegun
     ensures { result ≡ Spec.driven_of (table_of table.now) motion physics input }
 {
@@ -85,6 +63,7 @@ pub fn drive(motion: AxisMotion, physics: AxisPhysics, input: AxisInput, table: 
 }
 
 // A drag ends a target under way and the sticking, but keeps the velocity.
+#[tactic(auto, unfolding(crate::specs::Drive::dragged_of))]
 fn drag_axis(motion: AxisMotion, physics: AxisPhysics, input: AxisInput) -> AxisBegun
     ensures { result ≡ Spec.dragged_of motion physics input }
 {
@@ -95,11 +74,9 @@ fn drag_axis(motion: AxisMotion, physics: AxisPhysics, input: AxisInput) -> Axis
         return AxisBegun {
             motion: AxisMotion {
                 offset,
-                vel: motion.vel,
-                offset_target: OffsetTarget {
-                    target: MaybeTarget::Nothing,
-                },
+                offset_target: None,
                 scroll_stuck_to_end: false,
+                ..motion
             },
             rubber_banding,
             repaint: false,
@@ -113,10 +90,10 @@ fn drag_axis(motion: AxisMotion, physics: AxisPhysics, input: AxisInput) -> Axis
 }
 
 // Both axes step, also one that is not enabled.
+#[tactic(auto, unfolding(crate::specs::Drive::stepped_of))]
 fn step_axis(motion: AxisMotion, physics: AxisPhysics, input: AxisInput, table: &[u8]) -> AxisBegun
     ensures { result ≡ Spec.stepped_of (table_of table.now) motion physics input }
 {
-    let offset_target = motion.offset_target;
     let vel = released(input, motion.vel);
     let stepped = physics.step_by(motion.offset, vel, input.dt, input.hold_overscroll, table);
     let rubber_banding = physics.is_rubber_banding(stepped.offset);
@@ -124,8 +101,7 @@ fn step_axis(motion: AxisMotion, physics: AxisPhysics, input: AxisInput, table: 
         motion: AxisMotion {
             offset: stepped.offset,
             vel: stepped.vel,
-            offset_target,
-            scroll_stuck_to_end: motion.scroll_stuck_to_end,
+            ..motion
         },
         rubber_banding,
         repaint: stepped.moving,
@@ -133,6 +109,7 @@ fn step_axis(motion: AxisMotion, physics: AxisPhysics, input: AxisInput, table: 
 }
 
 // Letting go throws the content with the pointer's speed; an axis that is not enabled stops.
+#[tactic(auto, unfolding(crate::specs::Drive::released_of))]
 fn released(input: AxisInput, vel: f32) -> f32
     ensures { result ≡ Spec.released_of input vel }
 {

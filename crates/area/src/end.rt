@@ -1,48 +1,48 @@
 // The second half of a frame: targets and deltas, sizes, the wheel, sticking, bars, the last clamp and the stuck flags.
-ghost use Rattle.std.specs.Prelude.{◌≡◌, ◌<◌};
-ghost use Rattle.area.specs.Frame.{Whole, frame_of};
+ghost use Rattle.std.specs.Prelude.{◌≡◌};
+ghost use Rattle.numbers.specs.Axis.{index_of, other_of};
 ghost use Rattle.area.specs.End as Spec;
 
 use crate::adjust::{Adjusted, adjust_axis};
-use crate::bar::{Barred, HandleRect, bar_axis};
-use crate::copies::{copy_of_motion, copy_of_target};
+use crate::bar::{Barred, bar_axis};
 use crate::drive::before_of;
 use crate::extent::{AxisExtent, extent_of};
 use crate::final_clamp::{FinalClamp, final_clamp_axis};
+use crate::frame::Frame;
 use crate::geometry::shows_bar;
 use crate::handle::BarSpace;
 use crate::prepared::{AxisBefore, AxisBegun, AxisSpace, Prepared};
-use crate::state::{OffsetTarget, StartOffset, State};
+use crate::state::{ScrollingToTarget, State};
 use crate::stick::stick_axis;
 use crate::wheel_turn::{Turned, WheelHeard, hear_wheel, turn_axis};
-use crate::{host_words, settings_words};
-use numbers::{Pos2, Rangef, Rect};
+use numbers::{Axis, Pos2, Rangef, Rect};
 
 // One axis at the end of a frame.
-#[derive(Clone, Copy)]
+#[derive(Clone, Copy, Debug, PartialEq)]
 pub struct AxisEnded {
     pub offset: f32,
     pub vel: f32,
-    pub offset_target: OffsetTarget,
+    pub offset_target: Option<ScrollingToTarget>,
     pub scroll_stuck_to_end: bool,
     pub bounced_this_momentum: bool,
-    pub press: StartOffset,
+    pub press: Option<f32>,
     pub scroll_bar_interaction: bool,
     pub show_scroll: bool,
-    pub handle: HandleRect,
+    pub handle: Option<Rect>,
+    // Stays: a flag, as in Pressed.
     pub is_press_blocked: bool,
     pub consumed: bool,
     pub had_explicit_scroll_adjustment: bool,
 }
 
 // The extent of an axis, and of the other one.
-#[derive(Clone, Copy)]
+#[derive(Clone, Copy, Debug, PartialEq)]
 pub struct Extents {
     pub this: AxisExtent,
     pub other: AxisExtent,
 }
 
-#[derive(Clone, Copy)]
+#[derive(Clone, Copy, Debug, PartialEq)]
 pub struct Ended {
     pub x_extent: AxisExtent,
     pub y_extent: AxisExtent,
@@ -51,13 +51,13 @@ pub struct Ended {
     pub y: AxisEnded,
 }
 
-pub fn end(frame: &[u8], state: State, prepared: Prepared) -> Ended
-    requires { Whole frame.now }
-    ensures { result ≡ Spec.end_of (frame_of frame.now) state prepared }
+#[tactic(auto, unfolding(crate::specs::End::end_of))]
+pub fn end(frame: &Frame, state: State, prepared: Prepared) -> Ended
+    ensures { result ≡ Spec.end_of frame.now state prepared }
 {
-    let x_extent = extent_of(frame, 0, prepared.x_space);
-    let y_extent = extent_of(frame, 1, prepared.y_space);
-    let dragged = prepared.has_background_drag & host_words::dragged(frame);
+    let x_extent = extent_of(frame, Axis::X, prepared.x_space);
+    let y_extent = extent_of(frame, Axis::Y, prepared.y_space);
+    let dragged = prepared.has_background_drag & frame.dragged();
     let wheel = hear_wheel(frame, outer_rect_of(x_extent, y_extent), dragged);
     let for_x = Extents {
         this: x_extent,
@@ -69,9 +69,8 @@ pub fn end(frame: &[u8], state: State, prepared: Prepared) -> Ended
     };
     let x = end_axis(
         frame,
-        0,
-        1,
-        before_of(state, 0),
+        Axis::X,
+        before_of(state, Axis::X),
         prepared.x_space,
         for_x,
         wheel,
@@ -79,9 +78,8 @@ pub fn end(frame: &[u8], state: State, prepared: Prepared) -> Ended
     );
     let y = end_axis(
         frame,
-        1,
-        0,
-        before_of(state, 1),
+        Axis::Y,
+        before_of(state, Axis::Y),
         prepared.y_space,
         for_y,
         wheel,
@@ -96,21 +94,20 @@ pub fn end(frame: &[u8], state: State, prepared: Prepared) -> Ended
     }
 }
 
-// One axis through all stages; of the other axis e only the space matters.
+// One axis through all stages; of the other axis only the space matters.
+#[tactic(auto, unfolding(crate::specs::End::axis_ended_of))]
 fn end_axis(
-    frame: &[u8],
-    d: usize,
-    e: usize,
+    frame: &Frame,
+    d: Axis,
     before: AxisBefore,
     space: AxisSpace,
     extents: Extents,
     wheel: WheelHeard,
     begun: AxisBegun,
 ) -> AxisEnded
-    requires { Whole frame.now × (d < 2) × (e < 2) }
-    ensures { result ≡ Spec.axis_ended_of (frame_of frame.now) d e before space extents wheel begun }
+    ensures { result ≡ Spec.axis_ended_of frame.now (index_of d) (index_of (other_of d)) before space extents wheel begun }
 {
-    let adjusted = adjust_axis(frame, d, space, copy_of_motion(begun.motion));
+    let adjusted = adjust_axis(frame, d, space, begun.motion);
     let turned = turn_axis(
         frame,
         d,
@@ -121,39 +118,36 @@ fn end_axis(
         adjusted.motion,
         begun.rubber_banding,
     );
-    finish_axis(frame, d, e, before, extents, adjusted, turned)
+    finish_axis(frame, d, before, extents, adjusted, turned)
 }
 
 // Sticking, the bar, the last clamp.
+#[tactic(auto, unfolding(crate::specs::End::finished_of))]
 fn finish_axis(
-    frame: &[u8],
-    d: usize,
-    e: usize,
+    frame: &Frame,
+    d: Axis,
     before: AxisBefore,
     extents: Extents,
     adjusted: Adjusted,
     turned: Turned,
 ) -> AxisEnded
-    requires { Whole frame.now × (d < 2) × (e < 2) }
-    ensures { result ≡ Spec.finished_of (frame_of frame.now) d e before extents adjusted turned }
+    ensures { result ≡ Spec.finished_of frame.now (index_of d) (index_of (other_of d)) before extents adjusted turned }
 {
-    let stored = before.press;
-    let sticks = settings_words::stick_to_end(frame, d);
+    let sticks = frame.stick_to_end(d);
     let explicit = adjusted.had_explicit_scroll_adjustment;
     let show = shows_bar(
         frame,
         extents.this.content_is_too_large,
-        settings_words::direction_enabled(frame, d),
+        frame.direction_enabled(d),
     );
     let stuck = stick_axis(turned.motion, sticks, explicit, extents.this.max_offset);
     let barred = bar_axis(
         frame,
         d,
-        e,
-        bar_space_of(extents),
+        BarSpace::from(extents),
         show,
         turned.rubber_banding,
-        stored,
+        before.press,
         stuck,
     );
     let last = final_clamp_axis(
@@ -166,6 +160,7 @@ fn finish_axis(
     ended_of(explicit, turned, show, barred, last)
 }
 
+#[tactic(auto, unfolding(crate::specs::End::ended_by))]
 fn ended_of(
     explicit: bool,
     turned: Turned,
@@ -175,43 +170,43 @@ fn ended_of(
 ) -> AxisEnded
     ensures { result ≡ Spec.ended_by explicit turned show barred last }
 {
-    let target = barred.motion.offset_target;
-    let offset_target = copy_of_target(target);
-    let press = barred.press;
-    let handle = barred.handle;
     AxisEnded {
         offset: last.offset,
         vel: barred.motion.vel,
-        offset_target,
+        offset_target: barred.motion.offset_target,
         scroll_stuck_to_end: last.scroll_stuck_to_end,
         bounced_this_momentum: turned.bounced_this_momentum,
-        press,
+        press: barred.press,
         scroll_bar_interaction: barred.scroll_bar_interaction,
         show_scroll: show,
-        handle,
+        handle: barred.handle,
         is_press_blocked: barred.is_press_blocked,
         consumed: turned.consumed,
         had_explicit_scroll_adjustment: explicit,
     }
 }
 
-fn bar_space_of(extents: Extents) -> BarSpace
-    ensures { result ≡ Spec.bar_space_of extents }
-{
-    BarSpace {
-        content_size: extents.this.content_size,
-        inner: Rangef {
-            min: extents.this.min,
-            max: extents.this.max,
-        },
-        inner_size: extents.this.size,
-        max_offset: extents.this.max_offset,
-        cross_inner_max: extents.other.max,
-        cross_outer_max: extents.other.outer_max,
+impl From<Extents> for BarSpace {
+    ghost from_gives = { λ extents space. space ≡ Spec.bar_space_of extents };
+
+    #[tactic(auto, unfolding(crate::specs::End::bar_space_of))]
+    fn from(extents: Extents) -> Self {
+        BarSpace {
+            content_size: extents.this.content_size,
+            inner: Rangef {
+                min: extents.this.min,
+                max: extents.this.max,
+            },
+            inner_size: extents.this.size,
+            max_offset: extents.this.max_offset,
+            cross_inner_max: extents.other.max,
+            cross_outer_max: extents.other.outer_max,
+        }
     }
 }
 
 // The inner rectangle as the content shrank it.
+#[tactic(auto, unfolding(crate::specs::End::shrunk_rect_of))]
 pub fn shrunk_rect_of(x: AxisExtent, y: AxisExtent) -> Rect
     ensures { result ≡ Spec.shrunk_rect_of x y }
 {
@@ -221,6 +216,7 @@ pub fn shrunk_rect_of(x: AxisExtent, y: AxisExtent) -> Rect
     }
 }
 
+#[tactic(auto, unfolding(crate::specs::End::outer_rect_of))]
 fn outer_rect_of(x: AxisExtent, y: AxisExtent) -> Rect
     ensures { result ≡ Spec.outer_rect_of x y }
 {
@@ -234,6 +230,7 @@ fn outer_rect_of(x: AxisExtent, y: AxisExtent) -> Rect
 }
 
 // Check 7, on either axis.
+#[tactic(auto, unfolding(crate::specs::End::is_press_blocked))]
 pub fn is_press_blocked(ended: Ended) -> bool
     ensures { result ≡ Spec.is_press_blocked ended }
 {

@@ -1,16 +1,15 @@
 // How long the content, the inner and the outer rectangle are along one axis, now that the content is known.
-ghost use Rattle.std.specs.Prelude.{◌≡◌, ◌<◌};
-ghost use Rattle.area.specs.Frame.{Whole, frame_of};
+ghost use Rattle.std.specs.Prelude.{◌≡◌};
+ghost use Rattle.numbers.specs.Axis.{index_of};
 ghost use Rattle.area.specs.Extent as Spec;
 
-use crate::geometry::pick;
+use crate::frame::Frame;
 use crate::prepared::AxisSpace;
-use crate::{content_words, settings_words, style_words};
-use numbers::{ceil, max, min};
+use numbers::{Axis, ceil, max, min};
 
 // The inner rectangle's side as shrunk, with its size; where the outer one's ends; how far the offset may go, negative
 // where the content fits; and whether it does not.
-#[derive(Clone, Copy)]
+#[derive(Clone, Copy, Debug, PartialEq)]
 pub struct AxisExtent {
     pub content_size: f32,
     pub min: f32,
@@ -22,20 +21,21 @@ pub struct AxisExtent {
 }
 
 // Starts from the size of begin's inner rectangle, rounded again, not from begin's inner size.
-pub fn extent_of(frame: &[u8], d: usize, space: AxisSpace) -> AxisExtent
-    requires { Whole frame.now × (d < 2) }
-    ensures { result ≡ Spec.extent_of (frame_of frame.now) d space }
+#[tactic(auto, unfolding(crate::specs::Extent::extent_of))]
+pub fn extent_of(frame: &Frame, d: Axis, space: AxisSpace) -> AxisExtent
+    ensures { result ≡ Spec.extent_of frame.now (index_of d) space }
 {
     extent_by(
-        settings_words::direction_enabled(frame, d),
-        settings_words::auto_shrink(frame, d),
-        style_words::floating(frame),
+        frame.direction_enabled(d),
+        frame.auto_shrink(d),
+        frame.floating(),
         space,
-        content_words::size_along(frame, d),
+        frame.content_size_along(d),
     )
 }
 
 // A floating bar lies over the content, so the content may also fill the bar's space before it counts as too large.
+#[tactic(auto, unfolding(crate::specs::Extent::extent_by, crate::specs::Geometry::pick_of))]
 fn extent_by(
     enabled: bool,
     auto_shrink: bool,
@@ -48,7 +48,11 @@ fn extent_by(
     let end = space.min + inner_size_of(enabled, auto_shrink, space.max - space.min, content_size);
     let size = end - space.min;
     let outer_max = space.min + (size + space.bar_use);
-    let limit = pick(floating, outer_max - space.min, size);
+    let limit = if floating {
+        outer_max - space.min
+    } else {
+        size
+    };
     AxisExtent {
         content_size,
         min: space.min,
@@ -61,6 +65,7 @@ fn extent_by(
 }
 
 // A scrolled axis keeps its size, or shrinks to small content; any other follows the content, or grows to it.
+#[tactic(auto, unfolding(crate::specs::Extent::inner_size_of))]
 fn inner_size_of(enabled: bool, auto_shrink: bool, inner_size: f32, content_size: f32) -> f32
     ensures { result ≡ Spec.inner_size_of enabled auto_shrink inner_size content_size }
 {

@@ -2,17 +2,17 @@
 ghost use Rattle.std.specs.Prelude.{◌≡◌};
 ghost use Rattle.area.specs.FinalClamp as Spec;
 
-use crate::geometry::{has_target, pick};
 use crate::prepared::AxisMotion;
 use crate::state::clamped;
 
-#[derive(Clone, Copy)]
+#[derive(Clone, Copy, Debug, PartialEq)]
 pub struct FinalClamp {
     pub offset: f32,
     pub scroll_stuck_to_end: bool,
 }
 
 // A rubber band keeps the offset past the edge; a target asked for in this frame keeps the list from counting as stuck.
+#[tactic(auto, unfolding(crate::specs::FinalClamp::final_clamp_of, crate::specs::Geometry::has_target, crate::specs::Geometry::pick_of))]
 pub fn final_clamp_axis(
     m: AxisMotion,
     rubber_banding: bool,
@@ -22,9 +22,12 @@ pub fn final_clamp_axis(
 ) -> FinalClamp
     ensures { result ≡ Spec.final_clamp_of m rubber_banding max_offset stick_to_end had_explicit_scroll_adjustment }
 {
-    let offset_target = m.offset_target;
-    let offset = pick(rubber_banding, m.offset, clamped(m.offset, max_offset));
-    let suppressed = had_explicit_scroll_adjustment & has_target(offset_target);
+    let offset = if rubber_banding {
+        m.offset
+    } else {
+        clamped(m.offset, max_offset)
+    };
+    let suppressed = had_explicit_scroll_adjustment & m.offset_target.is_some();
     FinalClamp {
         offset,
         scroll_stuck_to_end: !suppressed

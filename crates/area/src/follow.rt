@@ -3,23 +3,22 @@ ghost use Rattle.std.specs.Prelude.{◌≡◌};
 ghost use Rattle.area.specs.Follow as Spec;
 
 use crate::prepared::{AxisBegun, AxisMotion};
-use crate::state::{MaybeTarget, OffsetTarget, ScrollingToTarget};
+use crate::state::ScrollingToTarget;
 use numbers::{abs, interpolation_factor, lerp};
 
 // One frame further towards the target, if a drag has not ended it.
+#[tactic(auto, unfolding(crate::specs::Follow::followed_of))]
 pub fn follow(begun: AxisBegun, time: f64, dt: f32) -> AxisBegun
     ensures { result ≡ Spec.followed_of begun time dt }
 {
-    let motion = begun.motion;
-    let held = motion.offset_target;
-    let target = held.target;
-    match target {
-        MaybeTarget::Nothing => begun,
-        MaybeTarget::Toward(t) => approach(begun, t, time, dt),
+    match begun.motion.offset_target {
+        None => begun,
+        Some(t) => approach(begun, t, time, dt),
     }
 }
 
 // Less than 1 from the target it snaps there, at any time.
+#[tactic(auto, unfolding(crate::specs::Follow::approach_of, crate::specs::Follow::moved_towards))]
 fn approach(begun: AxisBegun, t: ScrollingToTarget, time: f64, dt: f32) -> AxisBegun
     ensures { result ≡ Spec.approach_of begun t time dt }
 {
@@ -35,13 +34,11 @@ fn approach(begun: AxisBegun, t: ScrollingToTarget, time: f64, dt: f32) -> AxisB
             motion: AxisMotion {
                 offset,
                 vel: 0.0,
-                offset_target: OffsetTarget {
-                    target: MaybeTarget::Toward(t),
-                },
-                scroll_stuck_to_end: begun.motion.scroll_stuck_to_end,
+                offset_target: Some(t),
+                ..begun.motion
             },
-            rubber_banding: begun.rubber_banding,
             repaint: true,
+            ..begun
         };
     }
     arrive(begun, t)
@@ -55,12 +52,9 @@ fn arrive(begun: AxisBegun, t: ScrollingToTarget) -> AxisBegun
         motion: AxisMotion {
             offset: t.target_offset,
             vel: 0.0,
-            offset_target: OffsetTarget {
-                target: MaybeTarget::Nothing,
-            },
-            scroll_stuck_to_end: begun.motion.scroll_stuck_to_end,
+            offset_target: None,
+            ..begun.motion
         },
-        rubber_banding: begun.rubber_banding,
-        repaint: begun.repaint,
+        ..begun
     }
 }

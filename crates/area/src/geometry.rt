@@ -1,40 +1,30 @@
-// What both halves of a frame ask of points, rectangles and options.
+// What both halves of a frame ask of it.
 ghost use Rattle.std.specs.Prelude.{◌≡◌};
-ghost use Rattle.area.specs.Frame.{Whole, frame_of};
+ghost use Rattle.numbers.specs.Axis.{index_of};
 ghost use Rattle.area.specs.Geometry as Spec;
+ghost use Rattle.area.specs.Space as Space;
 
-use crate::frame::{MaybePos2, ScrollBarVisibility};
-use crate::state::{MaybeRect, MaybeTarget, OffsetTarget};
-use crate::{host_words, settings_words};
-use numbers::{Pos2, Rect};
+use crate::fields::ScrollBarVisibility;
+use crate::frame::Frame;
+use numbers::{Axis, Rangef, Rect};
 
-// The Rust's p[d].
-pub fn along(p: Pos2, d: usize) -> f32
-    ensures { result ≡ Spec.along_of p d }
+// A rectangle's side along axis d.
+#[tactic(auto, unfolding(crate::specs::Space::side_of))]
+pub fn side_of(rect: Rect, d: Axis) -> Rangef
+    ensures { result ≡ Space.side_of rect (index_of d) }
 {
-    let x = d == 0;
-    if x {
-        return p.x;
+    Rangef {
+        min: rect.min.along(d),
+        max: rect.max.along(d),
     }
-    p.y
-}
-
-pub fn pick(test: bool, a: f32, b: f32) -> f32
-    ensures { result ≡ Spec.pick_of test a b }
-{
-    if test {
-        return a;
-    }
-    b
 }
 
 // Whether a bar is to show, where `needed` says whether the content asks for it.
-pub fn shows_bar(frame: &[u8], needed: bool, enabled: bool) -> bool
-    requires { Whole frame.now }
-    ensures { result ≡ Spec.shows_bar (frame_of frame.now).settings.scroll_bar_visibility needed enabled }
+#[tactic(auto, unfolding(crate::specs::Geometry::shows_bar))]
+pub fn shows_bar(frame: &Frame, needed: bool, enabled: bool) -> bool
+    ensures { result ≡ Spec.shows_bar frame.now.settings.scroll_bar_visibility needed enabled }
 {
-    let visibility = settings_words::scroll_bar_visibility(frame);
-    match visibility {
+    match frame.scroll_bar_visibility() {
         ScrollBarVisibility::AlwaysHidden => false,
         ScrollBarVisibility::VisibleWhenNeeded => needed,
         ScrollBarVisibility::AlwaysVisible => enabled,
@@ -42,32 +32,12 @@ pub fn shows_bar(frame: &[u8], needed: bool, enabled: bool) -> bool
 }
 
 // A rectangle holds the pointer if its intersection with the clip does.
-pub fn rect_contains_pointer(frame: &[u8], rect: Rect) -> bool
-    requires { Whole frame.now }
-    ensures { result ≡ Spec.rect_contains_pointer (frame_of frame.now).host.clip (frame_of frame.now).host.pointer rect }
+#[tactic(auto, unfolding(crate::specs::Geometry::rect_contains_pointer))]
+pub fn rect_contains_pointer(frame: &Frame, rect: Rect) -> bool
+    ensures { result ≡ Spec.rect_contains_pointer frame.now.host.clip frame.now.host.pointer rect }
 {
-    let pointer = host_words::pointer(frame);
-    match pointer {
-        MaybePos2::Nothing => false,
-        MaybePos2::Some(p) => host_words::clip(frame).intersect(rect).contains(p),
-    }
-}
-
-pub fn is_rect_stored(r: MaybeRect) -> bool
-    ensures { result ≡ Spec.is_rect_stored r }
-{
-    match r {
-        MaybeRect::Nothing => false,
-        MaybeRect::Some(_) => true,
-    }
-}
-
-pub fn has_target(t: OffsetTarget) -> bool
-    ensures { result ≡ Spec.has_target t }
-{
-    let target = t.target;
-    match target {
-        MaybeTarget::Nothing => false,
-        MaybeTarget::Toward(_) => true,
+    match frame.pointer() {
+        None => false,
+        Some(p) => frame.clip().intersect(rect).contains(p),
     }
 }

@@ -1,15 +1,14 @@
 // Where one axis's bar stands and where its handle is on it.
-ghost use Rattle.std.specs.Prelude.{◌≡◌, ◌<◌};
-ghost use Rattle.area.specs.Frame.{Whole, frame_of};
+ghost use Rattle.std.specs.Prelude.{◌≡◌};
+ghost use Rattle.numbers.specs.Axis.{index_of, other_of};
 ghost use Rattle.area.specs.Handle as Spec;
 
-use crate::geometry::{along, pick};
-use crate::state::MaybeRect;
-use crate::{host_words, settings_words, style_words};
-use numbers::{Pos2, Rangef, Rect, lerp, max, remap_clamp};
+use crate::frame::Frame;
+use crate::geometry::side_of;
+use numbers::{Axis, Pos2, Rangef, Rect, lerp, max, remap_clamp};
 
 // What a bar needs of the space of its axis, and of the other axis the ends of the inner and the outer rectangle.
-#[derive(Clone, Copy)]
+#[derive(Clone, Copy, Debug, PartialEq)]
 pub struct BarSpace {
     pub content_size: f32,
     pub inner: Rangef,
@@ -20,7 +19,7 @@ pub struct BarSpace {
 }
 
 // A bar: its side along the axis, its side across, and what the handle on it stands for.
-#[derive(Clone, Copy)]
+#[derive(Clone, Copy, Debug, PartialEq)]
 pub struct Track {
     pub bar: Rangef,
     pub cross: Rangef,
@@ -31,17 +30,19 @@ pub struct Track {
 }
 
 // A bar that is to show at once takes the factor that it opens with.
+#[tactic(auto, unfolding(crate::specs::Handle::show_factor_of, crate::specs::Geometry::pick_of))]
 pub fn show_factor_of(show_scroll: bool, bar_factor: f32, opening_factor: f32) -> f32
     ensures { result ≡ Spec.show_factor_of show_scroll bar_factor opening_factor }
 {
-    pick(
-        show_scroll & (bar_factor <= 0.0),
-        opening_factor,
-        bar_factor,
-    )
+    if show_scroll & (bar_factor <= 0.0) {
+        opening_factor
+    } else {
+        bar_factor
+    }
 }
 
 // The bar's far side; moved in where the clip would hide it.
+#[tactic(auto, unfolding(crate::specs::Handle::max_cross_of))]
 fn max_cross_of(outer_max: f32, clip_max: f32, outer_margin: f32) -> f32
     ensures { result ≡ Spec.max_cross_of outer_max clip_max outer_margin }
 {
@@ -54,29 +55,24 @@ fn max_cross_of(outer_max: f32, clip_max: f32, outer_margin: f32) -> f32
 }
 
 // A floating bar grows as the pointer comes near; another one fills what was set aside for it.
+#[tactic(auto, unfolding(crate::specs::Handle::cross_of))]
 fn cross_of(
-    frame: &[u8],
+    frame: &Frame,
     show_factor: f32,
     hover_factor: f32,
     max_cross: f32,
     inner_max: f32,
 ) -> Rangef
-    requires { Whole frame.now }
-    ensures { result ≡ Spec.cross_of (frame_of frame.now).style show_factor hover_factor max_cross inner_max }
+    ensures { result ≡ Spec.cross_of frame.now.style show_factor hover_factor max_cross inner_max }
 {
-    if style_words::floating(frame) {
-        let width = show_factor
-            * lerp(
-                style_words::floating_width(frame),
-                style_words::bar_width(frame),
-                hover_factor,
-            );
+    if frame.floating() {
+        let width = show_factor * lerp(frame.floating_width(), frame.bar_width(), hover_factor);
         return Rangef {
             min: max_cross - width,
             max: max_cross,
         };
     }
-    let inner_margin = show_factor * style_words::bar_inner_margin(frame);
+    let inner_margin = show_factor * frame.bar_inner_margin();
     Rangef {
         min: inner_max + inner_margin,
         max: max_cross,
@@ -84,107 +80,93 @@ fn cross_of(
 }
 
 // The bar's side along the axis: the inner rectangle's, unless the host gave one.
-fn bar_range_of(frame: &[u8], inner: Rangef, d: usize) -> Rangef
-    requires { Whole frame.now }
-    ensures { result ≡ Spec.bar_range_of (frame_of frame.now).settings.scroll_bar_rect inner d }
+#[tactic(auto, unfolding(crate::specs::Handle::bar_range_of, crate::specs::Space::side_of))]
+fn bar_range_of(frame: &Frame, inner: Rangef, d: Axis) -> Rangef
+    ensures { result ≡ Spec.bar_range_of frame.now.settings.scroll_bar_rect inner (index_of d) }
 {
-    let scroll_bar_rect = settings_words::scroll_bar_rect(frame);
-    match scroll_bar_rect {
-        MaybeRect::Nothing => inner,
-        MaybeRect::Some(rect) => Rangef {
-            min: along(rect.min, d),
-            max: along(rect.max, d),
-        },
+    match frame.scroll_bar_rect() {
+        None => inner,
+        Some(rect) => side_of(rect, d),
     }
 }
 
-// The bar of axis d; e is the other axis, along which the bar has its width.
-pub fn track_of(frame: &[u8], d: usize, e: usize, space: BarSpace, show_factor: f32) -> Track
-    requires { Whole frame.now × (d < 2) × (e < 2) }
-    ensures { result ≡ Spec.track_of (frame_of frame.now) d e space show_factor }
+// The bar of axis d; along the other axis it has its width.
+#[tactic(auto, unfolding(crate::specs::Handle::track_of, crate::specs::Space::side_of))]
+pub fn track_of(frame: &Frame, d: Axis, space: BarSpace, show_factor: f32) -> Track
+    ensures { result ≡ Spec.track_of frame.now (index_of d) (index_of (other_of d)) space show_factor }
 {
-    let outer_margin = show_factor * style_words::bar_outer_margin(frame);
+    let outer_margin = show_factor * frame.bar_outer_margin();
     let max_cross = max_cross_of(
         space.cross_outer_max,
-        host_words::clip_side(frame, e).max,
+        frame.clip_side(d.other()).max,
         outer_margin,
     );
     let cross = cross_of(
         frame,
         show_factor,
-        host_words::hover_factor(frame, d),
+        frame.hover_factor(d),
         max_cross,
         space.cross_inner_max,
     );
-    let bar = bar_range_of(frame, space.inner, d);
     Track {
-        bar,
+        bar: bar_range_of(frame, space.inner, d),
         cross,
         content_size: space.content_size,
         inner_size: space.inner_size,
         max_offset: space.max_offset,
-        handle_min_length: style_words::handle_min_length(frame),
+        handle_min_length: frame.handle_min_length(),
     }
 }
 
-// Where on the bar a place in the content is.
-fn from_content(t: Track, content: f32) -> f32
-    ensures { result ≡ Spec.from_content t content }
-{
-    remap_clamp(content, 0.0, t.content_size, t.bar.min, t.bar.max)
-}
+impl Track {
+    // Where on the bar a place in the content is.
+    #[tactic(auto, unfolding(crate::specs::Handle::from_content))]
+    fn from_content(self, content: f32) -> f32
+        ensures { result ≡ Spec.from_content self content }
+    {
+        remap_clamp(content, 0.0, self.content_size, self.bar.min, self.bar.max)
+    }
 
-// As long as the part in view is on the bar, and never too short to be taken hold of.
-fn handle_size_of(t: Track, offset: f32) -> f32
-    ensures { result ≡ Spec.handle_size_of t offset }
-{
-    let size = from_content(t, offset + t.inner_size) - from_content(t, offset);
-    max(size, t.handle_min_length)
-}
+    // As long as the part in view is on the bar, and never too short to be taken hold of.
+    #[tactic(auto, unfolding(crate::specs::Handle::handle_size_of))]
+    fn handle_size(self, offset: f32) -> f32
+        ensures { result ≡ Spec.handle_size_of self offset }
+    {
+        let size = self.from_content(offset + self.inner_size) - self.from_content(offset);
+        max(size, self.handle_min_length)
+    }
 
-// The handle's side along the axis. It stays on the bar where the offset is past the edge.
-pub fn calculate_handle(t: Track, offset: f32) -> Rangef
-    ensures { result ≡ Spec.handle_of t offset }
-{
-    let handle_size = handle_size_of(t, offset);
-    let handle_start_point = remap_clamp(
-        offset,
-        0.0,
-        t.max_offset,
-        t.bar.min,
-        t.bar.max - handle_size,
-    );
-    Rangef {
-        min: handle_start_point,
-        max: handle_start_point + handle_size,
+    // The handle's side along the axis. It stays on the bar where the offset is past the edge.
+    #[tactic(auto, unfolding(crate::specs::Handle::handle_of))]
+    pub fn calculate_handle(self, offset: f32) -> Rangef
+        ensures { result ≡ Spec.handle_of self offset }
+    {
+        let handle_size = self.handle_size(offset);
+        let handle_start_point = remap_clamp(
+            offset,
+            0.0,
+            self.max_offset,
+            self.bar.min,
+            self.bar.max - handle_size,
+        );
+        Rangef {
+            min: handle_start_point,
+            max: handle_start_point + handle_size,
+        }
     }
 }
 
 // The handle's rectangle from its two sides.
-pub fn handle_rect_of(handle: Rangef, cross: Rangef, d: usize) -> Rect
-    ensures { result ≡ Spec.handle_rect_of handle cross d }
+#[tactic(auto, unfolding(crate::specs::Handle::handle_rect_of))]
+pub fn handle_rect_of(handle: Rangef, cross: Rangef, d: Axis) -> Rect
+    ensures { result ≡ Spec.handle_rect_of handle cross (index_of d) }
 {
-    let x = d == 0;
-    if x {
-        return Rect {
-            min: Pos2 {
-                x: handle.min,
-                y: cross.min,
-            },
-            max: Pos2 {
-                x: handle.max,
-                y: cross.max,
-            },
-        };
-    }
+    let (x, y) = match d {
+        Axis::X => (handle, cross),
+        Axis::Y => (cross, handle),
+    };
     Rect {
-        min: Pos2 {
-            x: cross.min,
-            y: handle.min,
-        },
-        max: Pos2 {
-            x: cross.max,
-            y: handle.max,
-        },
+        min: Pos2 { x: x.min, y: y.min },
+        max: Pos2 { x: x.max, y: y.max },
     }
 }

@@ -1,4 +1,6 @@
 // A scroll area: its state, the frame that a host hands in, and the checks on both.
+// Stays: state, bytes and table apart. They are the operands of one call, and a struct of them would be built for it and taken apart in it.
+// Stays: a table as bytes of any length. Each public call takes every length, and one of another than 8,200 stands for T.
 #![tactic(auto)]
 
 mod adjust;
@@ -8,53 +10,40 @@ mod begin;
 mod call;
 mod checks;
 mod clock;
-mod content_words;
-mod copies;
 mod decode;
 mod drive;
 mod end;
 mod extent;
+mod fields;
 mod final_clamp;
 mod follow;
 mod frame;
 mod geometry;
 mod handle;
-mod host_words;
 mod lent;
 mod marks;
 mod moved;
 mod outcome;
-mod pair;
 mod prepared;
 mod press;
 mod put_out;
 mod replays;
-mod settings_words;
 mod settling_run;
 mod space;
 mod state;
 mod stick;
-mod style_words;
 mod sweep;
 mod wheel_turn;
 
-pub use bar::HandleRect;
 pub use call::{frame_by, frame_call};
-pub use checks::{frame_refusal, refusal_before_7};
+pub use checks::{check_before_7, check_frame};
 pub use clock::{put_time, reset, reset_lent};
-pub use decode::{
-    flag_at, flags_at, maybe_rect_at, number_at, pair_at, source_at, time_at, word_at,
-};
-pub use frame::{
-    BarResponse, Content, DragScroll, Frame, GivenOffset, Host, MaybeAlign, MaybeNumber, MaybePos2,
-    MaybeScrollTarget, ScrollAnimation, ScrollBarVisibility, ScrollTarget, Settings, Style,
-    TargetRequest,
-};
+pub use decode::{FromWords, OfWord, kind_at, word_at};
+pub use fields::{BarResponse, DragScroll, ScrollAnimation, ScrollBarVisibility, ScrollTarget};
+pub use frame::Frame;
 pub use lent::{frame_lent, frame_lent_by};
-pub use outcome::{Answer, Outcome};
-pub use replays::{call_by, replay};
-pub use settling_run::{Settled, settle, settle_by, settle_frames, settle_refusal};
-pub use state::{
-    MaybePress, MaybeRect, MaybeTarget, OffsetTarget, ScrollingToTarget, StartOffset, State,
-};
+pub use outcome::{Accepted, Outputs, state_after};
+pub use replays::{Form, call_by, replay};
+pub use settling_run::{SettlingRun, check_run, settle, settle_by, settle_frames};
+pub use state::{ScrollingToTarget, State};
 pub use sweep::{Swept, bad_word, sweep_words};

@@ -1,76 +1,185 @@
-// What one word shows, in the walk of checks 2 to 5. The walk keeps a mark, the number shown times 128 plus the number of the word, so that
-// the lower mark is the lower number and, of equal numbers, the earlier word; 0 is none. A word after word `last` is not kept.
-ghost use Rattle.std.specs.Prelude.{◌≡◌, ◌<◌, ◌≤◌, if◌then◌else◌, ◌==◌, from_bits, nat_lt};
+// What one word of a frame shows by itself, in the walk of checks 2 to 5.
+ghost use Rattle.std.specs.Prelude.{◌≡◌, if◌then◌else◌, ◌==◌, MatchResult, from_bits, true, false, refl};
 ghost use Rattle.std.specs.Float.{binary32};
 ghost use Rattle.std.specs.Float.Ieee.{lt};
 ghost use Rattle.numbers.specs.F32.{zero};
 ghost use Rattle.axis.specs.Limits.{exceeds_limit};
+ghost use Rattle.refusals.specs.Refusal.{number_in, number_of};
 ghost use Rattle.area.specs.Layout as At;
+ghost use Rattle.area.specs.Layout.{Row};
 ghost use Rattle.area.specs.Marks as Spec;
 
+mod shown;
+
 use axis::{is_decay_time_outside, word_exceeds_limit};
-use numbers::{f32_of_bits, is_word_negative};
+use numbers::{Ieee, is_word_negative};
+use refusals::Refusal;
+pub use shown::Shown;
 
-// ---- the lower mark
+// ---- a kind of word, by its row
 
-// With word n, which shows k.
-fn keep(mark: u32, last: u32, n: u32, k: u32) -> u32
-    requires { (n ≤ 104) × (k ≤ 5) }
-    ensures { result ≡ Spec.kept_at mark last n k }
-{
-    let is_after = last < n;
-    if is_after {
-        return mark;
-    }
-    let own = k * 128 + n;
-    let is_first = mark == 0;
-    if is_first {
-        return own;
-    }
-    lower_of(own, mark)
+/// How a word is read and what is asked of it, in no option and with no start.
+pub trait Word {
+    ghost layout_row: { Row };
+
+    fn check(word: u32) -> Result<(), Refusal>
+        ensures { number_in result ≡ Spec.shown_of layout_row word 0 };
+
+    ghost alone: { Spec.Apart layout_row };
 }
 
-fn lower_of(own: u32, mark: u32) -> u32
-    ensures { result ≡ (if nat_lt own mark then own else mark) }
-{
-    let is_lower = own < mark;
-    if is_lower {
-        return own;
+/// A whole number from 0 to MOST.
+pub struct Kind<const MOST: u32>;
+
+impl<const MOST: u32> Word for Kind<MOST> {
+    ghost layout_row = { At.kind MOST };
+
+    fn check(word: u32) -> Result<(), Refusal> {
+        refuse(MOST < word, Refusal::FlagOrKind)
     }
-    mark
+
+    ghost alone = { (refl, refl, refl) };
 }
 
-// With word n, a number: 3 if it exceeds its limit, else k if it is outside what else is asked of it.
-pub fn with_number(mark: u32, last: u32, n: u32, exceeds: bool, outside: bool, k: u32) -> u32
-    requires { (n ≤ 104) × (0 < k) × (k ≤ 5) }
-    ensures { result ≡ Spec.kept_with mark last n (if exceeds then 3 else (if outside then k else 0)) }
-{
-    if exceeds {
-        return keep(mark, last, n, 3);
+pub type Flag = Kind<1>;
+
+/// A number.
+pub struct Plain;
+
+impl Word for Plain {
+    ghost layout_row = { At.plain };
+
+    fn check(word: u32) -> Result<(), Refusal> {
+        refuse(word_exceeds_limit(word), Refusal::Exceeds)
     }
-    if outside {
-        return keep(mark, last, n, k);
-    }
-    mark
+
+    ghost alone = { (refl, refl, refl) };
 }
 
-// With word n, a number that may not be negative. Most words pass by their bits at once: up to 0x49800000 they are numbers from 0 to the limit.
-fn not_negative(mark: u32, last: u32, n: u32, word: u32, k: u32) -> u32
-    requires { (n ≤ 104) × (0 < k) × (k ≤ 5) }
-    ensures { result ≡ Spec.kept_with mark last n (if exceeds_limit (from_bits binary32 word) then 3 else (if lt (from_bits binary32 word) zero then k else 0)) }
+/// A number that is not negative.
+pub struct Size;
+
+impl Word for Size {
+    ghost layout_row = { At.size };
+
+    fn check(word: u32) -> Result<(), Refusal> {
+        not_negative(word, Refusal::Outside)
+    }
+
+    ghost alone = { (refl, refl, refl) };
+}
+
+pub struct SizeOrInfinity;
+
+impl Word for SizeOrInfinity {
+    ghost layout_row = { At.size_or_infinity };
+
+    fn check(word: u32) -> Result<(), Refusal> {
+        if is_infinite(word) {
+            return Ok(());
+        }
+        Size::check(word)
+    }
+
+    ghost alone = { (refl, refl, refl) };
+}
+
+/// A number from 0 to 1.
+pub struct Factor;
+
+impl Word for Factor {
+    ghost layout_row = { At.factor };
+
+    fn check(word: u32) -> Result<(), Refusal> {
+        limited(word)?;
+        let x = f32::of_bits(word);
+        refuse(!((0.0 <= x) & (x <= 1.0)), Refusal::Outside)
+    }
+
+    ghost alone = { (refl, refl, refl) };
+}
+
+/// A number above 0, or +infinity.
+pub struct PointsPerSecond;
+
+impl Word for PointsPerSecond {
+    ghost layout_row = { At.points_per_second };
+
+    fn check(word: u32) -> Result<(), Refusal> {
+        if is_infinite(word) {
+            return Ok(());
+        }
+        limited(word)?;
+        let x = f32::of_bits(word);
+        refuse(!(0.0 < x), Refusal::Style)
+    }
+
+    ghost alone = { (refl, refl, refl) };
+}
+
+pub struct DecayTime;
+
+impl Word for DecayTime {
+    ghost layout_row = { At.bounded At.number At.decay_time };
+
+    fn check(word: u32) -> Result<(), Refusal> {
+        limited(word)?;
+        let x = f32::of_bits(word);
+        refuse(is_decay_time_outside(x), Refusal::Style)
+    }
+
+    ghost alone = { (refl, refl, refl) };
+}
+
+pub struct StopDistance;
+
+impl Word for StopDistance {
+    ghost layout_row = { At.bounded At.number At.stop_distance };
+
+    fn check(word: u32) -> Result<(), Refusal> {
+        not_negative(word, Refusal::Style)
+    }
+
+    ghost alone = { (refl, refl, refl) };
+}
+
+/// Of the end of what starts with another word, carried along.
+pub fn check_end(word: u32, start: u32) -> Result<(), Refusal>
+    ensures { number_in result ≡ Spec.shown_of (At.end_of 1) word start }
+{
+    limited(word)?;
+    let x = f32::of_bits(word);
+    refuse(x < f32::of_bits(start), Refusal::Outside)
+}
+
+// ---- what is asked of a word
+
+pub fn refuse(fails: bool, refusal: Refusal) -> Result<(), Refusal>
+    ensures { number_in result ≡ (if fails then number_of refusal else 0) }
+{
+    if fails { Err(refusal) } else { Ok(()) }
+}
+
+// Whether a number exceeds its limit. It goes first where more is asked: what passes is a number.
+fn limited(word: u32) -> Result<(), Refusal>
+    ensures { let exceeds = exceeds_limit (from_bits binary32 word) in MatchResult result (λ _. exceeds ≡ false) (λ refusal. (refusal ≡ Refusal.Exceeds) × (exceeds ≡ true)) }
+{
+    if word_exceeds_limit(word) {
+        return Err(Refusal::Exceeds);
+    }
+    Ok(())
+}
+
+// A number that may not be negative. Most words pass by their bits at once: up to 0x49800000 they are numbers from 0 to the limit.
+fn not_negative(word: u32, refusal: Refusal) -> Result<(), Refusal>
+    ensures { number_in result ≡ (if exceeds_limit (from_bits binary32 word) then 3 else (if lt (from_bits binary32 word) zero then number_of refusal else 0)) }
 {
     let fits = word <= 1233125376;
     if fits {
-        return mark;
+        return Ok(());
     }
-    with_number(
-        mark,
-        last,
-        n,
-        word_exceeds_limit(word),
-        is_word_negative(word),
-        k,
-    )
+    limited(word)?;
+    refuse(is_word_negative(word), refusal)
 }
 
 // Whether these are the bits of +infinity, 0x7f800000.
@@ -78,112 +187,4 @@ fn is_infinite(word: u32) -> bool
     ensures { result ≡ (word == 0x7f80_0000) }
 {
     word == 2139095040
-}
-
-// ---- word n, by its row
-
-pub fn kind(mark: u32, last: u32, n: u32, word: u32, most: u32) -> u32
-    requires { n ≤ 104 }
-    ensures { result ≡ Spec.kept_with mark last n (Spec.shown_of (At.kind most) word 0) }
-{
-    let is_outside = most < word;
-    if is_outside {
-        return keep(mark, last, n, 2);
-    }
-    mark
-}
-
-pub fn flag(mark: u32, last: u32, n: u32, word: u32) -> u32
-    requires { n ≤ 104 }
-    ensures { result ≡ Spec.kept_with mark last n (Spec.shown_of At.flag word 0) }
-{
-    kind(mark, last, n, word, 1)
-}
-
-pub fn plain(mark: u32, last: u32, n: u32, word: u32) -> u32
-    requires { n ≤ 104 }
-    ensures { result ≡ Spec.kept_with mark last n (Spec.shown_of At.plain word 0) }
-{
-    with_number(mark, last, n, word_exceeds_limit(word), false, 4)
-}
-
-pub fn size(mark: u32, last: u32, n: u32, word: u32) -> u32
-    requires { n ≤ 104 }
-    ensures { result ≡ Spec.kept_with mark last n (Spec.shown_of At.size word 0) }
-{
-    not_negative(mark, last, n, word, 4)
-}
-
-pub fn size_or_infinity(mark: u32, last: u32, n: u32, word: u32) -> u32
-    requires { n ≤ 104 }
-    ensures { result ≡ Spec.kept_with mark last n (Spec.shown_of At.size_or_infinity word 0) }
-{
-    if is_infinite(word) {
-        return mark;
-    }
-    size(mark, last, n, word)
-}
-
-pub fn factor(mark: u32, last: u32, n: u32, word: u32) -> u32
-    requires { n ≤ 104 }
-    ensures { result ≡ Spec.kept_with mark last n (Spec.shown_of At.factor word 0) }
-{
-    let x = f32_of_bits(word);
-    with_number(
-        mark,
-        last,
-        n,
-        word_exceeds_limit(word),
-        !((0.0 <= x) & (x <= 1.0)),
-        4,
-    )
-}
-
-// The end of what starts with another word, carried along.
-pub fn end_of(mark: u32, last: u32, n: u32, word: u32, start: u32) -> u32
-    requires { n ≤ 104 }
-    ensures { result ≡ Spec.kept_with mark last n (Spec.shown_of (At.end_of 1) word start) }
-{
-    let x = f32_of_bits(word);
-    with_number(
-        mark,
-        last,
-        n,
-        word_exceeds_limit(word),
-        x < f32_of_bits(start),
-        4,
-    )
-}
-
-pub fn points_per_second(mark: u32, last: u32, n: u32, word: u32) -> u32
-    requires { n ≤ 104 }
-    ensures { result ≡ Spec.kept_with mark last n (Spec.shown_of At.points_per_second word 0) }
-{
-    if is_infinite(word) {
-        return mark;
-    }
-    let x = f32_of_bits(word);
-    with_number(mark, last, n, word_exceeds_limit(word), !(0.0 < x), 5)
-}
-
-pub fn decay_time(mark: u32, last: u32, n: u32, word: u32) -> u32
-    requires { n ≤ 104 }
-    ensures { result ≡ Spec.kept_with mark last n (Spec.shown_of (At.bounded At.number At.decay_time) word 0) }
-{
-    let x = f32_of_bits(word);
-    with_number(
-        mark,
-        last,
-        n,
-        word_exceeds_limit(word),
-        is_decay_time_outside(x),
-        5,
-    )
-}
-
-pub fn stop_distance(mark: u32, last: u32, n: u32, word: u32) -> u32
-    requires { n ≤ 104 }
-    ensures { result ≡ Spec.kept_with mark last n (Spec.shown_of (At.bounded At.number At.stop_distance) word 0) }
-{
-    not_negative(mark, last, n, word, 5)
 }

@@ -1,134 +1,133 @@
 // A press on one axis's bar.
 ghost use Rattle.std.specs.Prelude.{◌≡◌};
+ghost use Rattle.numbers.specs.Axis.{index_of};
 ghost use Rattle.area.specs.Press as Spec;
 
-use crate::frame::MaybePos2;
-use crate::geometry::along;
 use crate::handle::{Track, handle_rect_of};
 use crate::prepared::AxisMotion;
-use crate::state::{MaybePress, MaybeTarget, OffsetTarget, StartOffset};
-use numbers::{Pos2, Rangef, clamp, remap};
+use numbers::{Axis, Pos2, Rangef, clamp, remap};
 
 // One axis after the press on its bar, or after none.
-#[derive(Clone, Copy)]
+#[derive(Clone, Copy, Debug, PartialEq)]
 pub struct Pressed {
     pub motion: AxisMotion,
-    pub press: StartOffset,
+    pub press: Option<f32>,
+    // Stays: a flag beside the motion. 7 is told of both axes after `end`, so an Err here would be carried to there through every stage.
     pub is_press_blocked: bool,
 }
 
-// In both dimensions, both ends included; the clip plays no part.
-fn is_on_handle(t: Track, handle: Rangef, p: Pos2, d: usize) -> bool
-    ensures { result ≡ Spec.is_on_handle t handle p d }
-{
-    handle_rect_of(handle, t.cross, d).contains(p)
+// What a pointer can take hold of: the bar of axis d, and the side of the handle on it.
+#[derive(Clone, Copy, Debug, PartialEq)]
+pub struct Grip {
+    pub track: Track,
+    pub handle: Rangef,
+    pub d: Axis,
 }
 
-// Where the handle starts when it is at the bar's end.
-fn handle_top_pos_at_bottom(t: Track, handle: Rangef) -> f32
-    ensures { result ≡ Spec.handle_top_pos_at_bottom t handle }
-{
-    t.bar.max - (handle.max - handle.min)
-}
-
-// A press on the handle holds it where it is; a press beside it brings the handle's middle under the pointer.
-fn new_start_offset(t: Track, handle: Rangef, p: Pos2, d: usize) -> f32
-    ensures { result ≡ Spec.new_start_offset t handle p d }
-{
-    let pointer = along(p, d);
-    let inside = is_on_handle(t, handle, p, d);
-    if inside {
-        return pointer - handle.min;
+impl Grip {
+    // In both dimensions, both ends included; the clip plays no part.
+    #[tactic(auto, unfolding(crate::specs::Press::is_on_handle))]
+    fn is_on_handle(self, p: Pos2) -> bool
+        ensures { result ≡ Spec.is_on_handle self.track self.handle p (index_of self.d) }
+    {
+        handle_rect_of(self.handle, self.track.cross, self.d).contains(p)
     }
-    let top = pointer - (handle.max - handle.min) * 0.5;
-    let new_handle_top_pos = clamp(top, t.bar.min, handle_top_pos_at_bottom(t, handle));
-    pointer - new_handle_top_pos
-}
 
-// A press goes on as it began.
-fn start_offset_of(stored: StartOffset, t: Track, handle: Rangef, p: Pos2, d: usize) -> f32
-    ensures { result ≡ Spec.start_offset_of stored t handle p d }
-{
-    let press = stored.press;
-    match press {
-        MaybePress::Nothing => new_start_offset(t, handle, p, d),
-        MaybePress::At(x) => x,
+    // Where the handle starts when it is at the bar's end.
+    #[tactic(auto, unfolding(crate::specs::Press::handle_top_pos_at_bottom))]
+    fn handle_top_pos_at_bottom(self) -> f32
+        ensures { result ≡ Spec.handle_top_pos_at_bottom self.track self.handle }
+    {
+        self.track.bar.max - (self.handle.max - self.handle.min)
     }
-}
 
-// Check 7: a new press beside a handle that is longer than its bar, where the Rust's clamp panics.
-fn is_blocked(stored: StartOffset, t: Track, handle: Rangef, p: Pos2, d: usize) -> bool
-    ensures { result ≡ Spec.is_blocked stored t handle p d }
-{
-    let press = stored.press;
-    match press {
-        MaybePress::Nothing => {
-            !is_on_handle(t, handle, p, d) & !(t.bar.min <= handle_top_pos_at_bottom(t, handle))
+    // A press on the handle holds it where it is; a press beside it brings the handle's middle under the pointer.
+    #[tactic(auto, unfolding(crate::specs::Press::new_start_offset))]
+    fn new_start_offset(self, p: Pos2) -> f32
+        ensures { result ≡ Spec.new_start_offset self.track self.handle p (index_of self.d) }
+    {
+        let pointer = p.along(self.d);
+        if self.is_on_handle(p) {
+            return pointer - self.handle.min;
         }
-        MaybePress::At(_) => false,
+        let top = pointer - (self.handle.max - self.handle.min) * 0.5;
+        let new_handle_top_pos = clamp(top, self.track.bar.min, self.handle_top_pos_at_bottom());
+        pointer - new_handle_top_pos
     }
-}
 
-// The offset that puts the handle there; a handle with no way to go stands for 0.
-fn offset_of(t: Track, handle: Rangef, new_handle_top: f32) -> f32
-    ensures { result ≡ Spec.offset_of t handle new_handle_top }
-{
-    let travel_end = handle_top_pos_at_bottom(t, handle);
-    if t.bar.min == travel_end {
-        return 0.0;
+    // A press goes on as it began.
+    #[tactic(auto, unfolding(crate::specs::Press::start_offset_of))]
+    fn start_offset(self, stored: Option<f32>, p: Pos2) -> f32
+        ensures { result ≡ Spec.start_offset_of stored self.track self.handle p (index_of self.d) }
+    {
+        match stored {
+            None => self.new_start_offset(p),
+            Some(start_offset) => start_offset,
+        }
     }
-    remap(new_handle_top, t.bar.min, travel_end, 0.0, t.max_offset)
+
+    // Check 7: a new press beside a handle that is longer than its bar, where the Rust's clamp panics.
+    #[tactic(auto, unfolding(crate::specs::Press::is_blocked))]
+    fn is_blocked(self, stored: Option<f32>, p: Pos2) -> bool
+        ensures { result ≡ Spec.is_blocked stored self.track self.handle p (index_of self.d) }
+    {
+        match stored {
+            None => {
+                !self.is_on_handle(p) & !(self.track.bar.min <= self.handle_top_pos_at_bottom())
+            }
+            Some(_) => false,
+        }
+    }
+
+    // The offset that puts the handle there; a handle with no way to go stands for 0.
+    #[tactic(auto, unfolding(crate::specs::Press::offset_of))]
+    fn offset_at(self, new_handle_top: f32) -> f32
+        ensures { result ≡ Spec.offset_of self.track self.handle new_handle_top }
+    {
+        let travel_start = self.track.bar.min;
+        let travel_end = self.handle_top_pos_at_bottom();
+        if travel_start == travel_end {
+            return 0.0;
+        }
+        remap(
+            new_handle_top,
+            travel_start,
+            travel_end,
+            0.0,
+            self.track.max_offset,
+        )
+    }
 }
 
 // The handle follows the pointer: no longer stuck, no target under way.
-fn press_at(
-    m: AxisMotion,
-    t: Track,
-    handle: Rangef,
-    stored: StartOffset,
-    p: Pos2,
-    d: usize,
-) -> Pressed
-    ensures { result ≡ Spec.press_at m t handle stored p d }
+#[tactic(auto, unfolding(crate::specs::Press::press_at))]
+fn press_at(m: AxisMotion, grip: Grip, stored: Option<f32>, p: Pos2) -> Pressed
+    ensures { result ≡ Spec.press_at m grip.track grip.handle stored p (index_of grip.d) }
 {
-    let start_offset = start_offset_of(stored, t, handle, p, d);
-    let is_press_blocked = is_blocked(stored, t, handle, p, d);
-    let offset = offset_of(t, handle, along(p, d) - start_offset);
+    let start_offset = grip.start_offset(stored, p);
     Pressed {
         motion: AxisMotion {
-            offset,
-            vel: m.vel,
-            offset_target: OffsetTarget {
-                target: MaybeTarget::Nothing,
-            },
+            offset: grip.offset_at(p.along(grip.d) - start_offset),
+            offset_target: None,
             scroll_stuck_to_end: false,
+            ..m
         },
-        press: StartOffset {
-            press: MaybePress::At(start_offset),
-        },
-        is_press_blocked,
+        press: Some(start_offset),
+        is_press_blocked: grip.is_blocked(stored, p),
     }
 }
 
 // Where nothing is pressed, no press stays stored.
-pub fn press_axis(
-    m: AxisMotion,
-    t: Track,
-    handle: Rangef,
-    stored: StartOffset,
-    press: MaybePos2,
-    d: usize,
-) -> Pressed
-    ensures { result ≡ Spec.press_of m t handle stored press d }
+#[tactic(auto, unfolding(crate::specs::Press::press_of))]
+pub fn press_axis(m: AxisMotion, grip: Grip, stored: Option<f32>, press: Option<Pos2>) -> Pressed
+    ensures { result ≡ Spec.press_of m grip.track grip.handle stored press (index_of grip.d) }
 {
     match press {
-        MaybePos2::Nothing => Pressed {
+        None => Pressed {
             motion: m,
-            press: StartOffset {
-                press: MaybePress::Nothing,
-            },
+            press: None,
             is_press_blocked: false,
         },
-        MaybePos2::Some(p) => press_at(m, t, handle, stored, p, d),
+        Some(p) => press_at(m, grip, stored, p),
     }
 }

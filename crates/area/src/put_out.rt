@@ -1,32 +1,30 @@
-// The answer of an accepted frame, put together from its two halves.
+// What an accepted frame puts out, put together from its two halves.
 ghost use Rattle.std.specs.Prelude.{◌≡◌};
-ghost use Rattle.area.specs.Frame.{Whole, frame_of};
+ghost use Rattle.numbers.specs.F32.{zero};
+ghost use Rattle.area.specs.Geometry.{pick_of};
+ghost use Rattle.area.specs.Outcome.{accepted_in};
 ghost use Rattle.area.specs.PutOut as Spec;
 
 use crate::begin::viewport_of;
 use crate::end::{Ended, shrunk_rect_of};
-use crate::geometry::pick;
-use crate::outcome::{Answer, Outcome};
-use crate::pair::flag;
+use crate::frame::Frame;
+use crate::outcome::{Accepted, Outputs};
 use crate::prepared::Prepared;
 use crate::space::inner_rect;
-use crate::state::{MaybeRect, State};
-use crate::{content_words, host_words, settings_words};
+use crate::state::State;
+use numbers::Axis;
 
-pub fn answer_of(frame: &[u8], state: State, prepared: Prepared, ended: Ended) -> Answer
-    requires { Whole frame.now }
-    ensures { result ≡ Spec.answer_of (frame_of frame.now) state prepared ended }
+#[tactic(auto, unfolding(crate::specs::PutOut::answer_of, crate::specs::PutOut::outcome_of, crate::specs::Begin::inner_rect_of))]
+pub fn accepted_of(frame: &Frame, state: State, prepared: Prepared, ended: Ended) -> Accepted
+    ensures { accepted_in result ≡ Spec.answer_of frame.now state prepared ended }
 {
-    let x_handle = ended.x.handle;
-    let y_handle = ended.y.handle;
-    Answer {
+    Accepted {
         state: next_state(frame, ended),
-        outcome: Outcome {
-            refusal: 0,
-            content_size: content_words::size(frame),
+        outputs: Outputs {
+            content_size: frame.content_size(),
             inner_rect: inner_rect(prepared.x_space, prepared.y_space),
             viewport: viewport_of(frame, state, prepared),
-            handles: [x_handle, y_handle],
+            handles: [ended.x.handle, ended.y.handle],
             wheel_delta_left: wheel_delta_left(frame, ended),
             scroll_delta_left: scroll_delta_left(frame),
             repaint: wants_repaint(state, prepared, ended),
@@ -35,18 +33,14 @@ pub fn answer_of(frame: &[u8], state: State, prepared: Prepared, ended: Ended) -
 }
 
 // What the next frame begins from.
-fn next_state(frame: &[u8], ended: Ended) -> State
-    requires { Whole frame.now }
-    ensures { result ≡ Spec.next_state (frame_of frame.now) ended }
+#[tactic(auto, unfolding(crate::specs::PutOut::next_state))]
+fn next_state(frame: &Frame, ended: Ended) -> State
+    ensures { result ≡ Spec.next_state frame.now ended }
 {
-    let x_target = ended.x.offset_target;
-    let y_target = ended.y.offset_target;
-    let x_press = ended.x.press;
-    let y_press = ended.y.press;
     State {
         offset: [ended.x.offset, ended.y.offset],
         max_offset: [ended.x_extent.max_offset, ended.y_extent.max_offset],
-        offset_target: [x_target, y_target],
+        offset_target: [ended.x.offset_target, ended.y.offset_target],
         show_scroll: [ended.x.show_scroll, ended.y.show_scroll],
         content_is_too_large: [
             ended.x_extent.content_is_too_large,
@@ -57,62 +51,61 @@ fn next_state(frame: &[u8], ended: Ended) -> State
             ended.y.scroll_bar_interaction,
         ],
         vel: [ended.x.vel, ended.y.vel],
-        scroll_start_offset_from_top_left: [x_press, y_press],
+        scroll_start_offset_from_top_left: [ended.x.press, ended.y.press],
         scroll_stuck_to_end: [ended.x.scroll_stuck_to_end, ended.y.scroll_stuck_to_end],
-        interact_rect: MaybeRect::Some(shrunk_rect_of(ended.x_extent, ended.y_extent)),
+        interact_rect: Some(shrunk_rect_of(ended.x_extent, ended.y_extent)),
         bounced_this_momentum: [ended.x.bounced_this_momentum, ended.y.bounced_this_momentum],
-        remembered_time: host_words::time(frame),
+        remembered_time: frame.time(),
     }
 }
 
 // A delta that was consumed is cleared, so that no parent uses it; both where the only direction took both.
-fn wheel_delta_left(frame: &[u8], ended: Ended) -> [f32; 2]
-    requires { Whole frame.now }
-    ensures { result ≡ Spec.wheel_delta_left (frame_of frame.now) ended }
+#[tactic(auto, unfolding(crate::specs::PutOut::wheel_delta_left))]
+fn wheel_delta_left(frame: &Frame, ended: Ended) -> [f32; 2]
+    ensures { result ≡ Spec.wheel_delta_left frame.now ended }
 {
     let both = ended.wheel.always_scroll_enabled_direction & (ended.x.consumed | ended.y.consumed);
     [
-        pick(
-            both | ended.x.consumed,
-            0.0,
-            host_words::smooth_scroll_delta(frame, 0),
-        ),
-        pick(
-            both | ended.y.consumed,
-            0.0,
-            host_words::smooth_scroll_delta(frame, 1),
-        ),
+        unless(both | ended.x.consumed, frame.smooth_scroll_delta(Axis::X)),
+        unless(both | ended.y.consumed, frame.smooth_scroll_delta(Axis::Y)),
     ]
 }
 
 // The scroll delta of an enabled axis is taken.
-fn scroll_delta_left(frame: &[u8]) -> [f32; 2]
-    requires { Whole frame.now }
-    ensures { result ≡ Spec.scroll_delta_left (frame_of frame.now) }
+#[tactic(auto, unfolding(crate::specs::PutOut::scroll_delta_left))]
+fn scroll_delta_left(frame: &Frame) -> [f32; 2]
+    ensures { result ≡ Spec.scroll_delta_left frame.now }
 {
     [
-        pick(
-            settings_words::direction_enabled(frame, 0),
-            0.0,
-            content_words::scroll_delta(frame, 0),
+        unless(
+            frame.direction_enabled(Axis::X),
+            frame.scroll_delta(Axis::X),
         ),
-        pick(
-            settings_words::direction_enabled(frame, 1),
-            0.0,
-            content_words::scroll_delta(frame, 1),
+        unless(
+            frame.direction_enabled(Axis::Y),
+            frame.scroll_delta(Axis::Y),
         ),
     ]
 }
 
+// Nothing of what is taken is left.
+#[tactic(auto, unfolding(crate::specs::Geometry::pick_of))]
+fn unless(taken: bool, delta: f32) -> f32
+    ensures { result ≡ pick_of taken zero delta }
+{
+    if taken { 0.0 } else { delta }
+}
+
 // A step that moves, a target under way, an adjustment, or bars that come or go.
+#[tactic(auto, unfolding(crate::specs::PutOut::wants_repaint))]
 fn wants_repaint(state: State, prepared: Prepared, ended: Ended) -> bool
     ensures { result ≡ Spec.wants_repaint state prepared ended }
 {
-    let shown = state.show_scroll;
+    let [x_shown, y_shown] = state.show_scroll;
     prepared.x.repaint
         | prepared.y.repaint
         | ended.x.had_explicit_scroll_adjustment
         | ended.y.had_explicit_scroll_adjustment
-        | (ended.x.show_scroll != flag(shown, 0))
-        | (ended.y.show_scroll != flag(shown, 1))
+        | (ended.x.show_scroll != x_shown)
+        | (ended.y.show_scroll != y_shown)
 }

@@ -1,79 +1,110 @@
 // A list of calls in bytes, in either form of the frame call.
-ghost use Rattle.std.specs.Prelude.{◌≡◌, ◌≤◌, length, slice_set};
+ghost use Rattle.std.specs.Prelude.{◌≡◌};
 ghost use Rattle.numbers.specs.Table.{table_of};
+ghost use Rattle.area.specs.Outcome.{answer_in};
 ghost use Rattle.area.specs.Lists.{FrameSays};
-ghost use Rattle.area.specs.Replay.{Part, Replayed};
+ghost use Rattle.area.specs.Replay.{Replayed, other_than, form_of};
 
 use crate::call::frame_by;
 use crate::lent::frame_lent_by;
-use crate::outcome::Answer;
+use crate::outcome::{Accepted, state_after};
 use crate::state::State;
+use refusals::{Refusal, number};
 
 // The bytes of a frame.
 const FRAME: usize = 416;
 
+// How a frame call is handed the state.
+#[derive(Clone, Copy, Debug, PartialEq, Eq)]
+pub enum Form {
+    ByValue,
+    Lent,
+}
+
+// 0 is by value, and any other lent.
+impl From<u8> for Form {
+    ghost from_gives = { λ by form. form ≡ form_of by };
+
+    fn from(by: u8) -> Self {
+        match by {
+            0 => Form::ByValue,
+            _ => Form::Lent,
+        }
+    }
+}
+
+impl Form {
+    // The other one, where the forms take turns.
+    pub fn other(self) -> Self
+        ensures { result ≡ other_than self }
+    {
+        match self {
+            Form::ByValue => Form::Lent,
+            Form::Lent => Form::ByValue,
+        }
+    }
+}
+
 // The lent call on a state by value: it is lent for the call and handed back.
-fn via_lent(state: State, bytes: &[u8], table: &[u8]) -> Answer
-    ensures { FrameSays (table_of table.now) state bytes.now result }
+#[tactic(auto, using(crate::proofs::CallLaws::refused_by_outcome, refusals::proofs::Refused::not_0))]
+fn via_lent(state: State, bytes: &[u8], table: &[u8]) -> Result<Accepted, Refusal>
+    ensures { FrameSays (table_of table.now) state bytes.now (answer_in state result) }
 {
     let mut lent = state;
-    let outcome = frame_lent_by(&mut lent, bytes, table);
-    Answer {
+    let outputs = frame_lent_by(&mut lent, bytes, table)?;
+    Ok(Accepted {
         state: lent,
-        outcome: outcome,
-    }
+        outputs,
+    })
 }
 
-// One frame by a table, by value where `by` is 0 and lent where it is any other.
-pub fn call_by(state: State, by: u8, bytes: &[u8], table: &[u8]) -> Answer
-    ensures { FrameSays (table_of table.now) state bytes.now result }
+// One frame by a table, in the form given.
+pub fn call_by(state: State, form: Form, bytes: &[u8], table: &[u8]) -> Result<Accepted, Refusal>
+    ensures { FrameSays (table_of table.now) state bytes.now (answer_in state result) }
 {
-    if by == 0 {
-        return frame_by(state, bytes, table);
-    }
-    via_lent(state, bytes, table)
-}
-
-// Where the frame that begins at `start` ends: a frame on, or at the end of the list.
-fn frame_end(calls: &[u8], start: usize) -> usize
-    requires { start ≤ length calls.now }
-    ensures { Part calls.now start result }
-{
-    if FRAME < calls.len() - start {
-        return start + FRAME;
-    }
-    calls.len()
-}
-
-// Written where there is room for it.
-fn put(refusals: &mut [u32], i: usize, refusal: u32)
-    ensures { refusals.new ≡ slice_set refusals.old i refusal }
-{
-    if i < refusals.len() {
-        refusals[i] = refusal;
+    match form {
+        Form::ByValue => frame_by(state, bytes, table),
+        Form::Lent => via_lent(state, bytes, table),
     }
 }
 
-// A list of calls by table T, one after another from a default state, and the state after them. In bytes, for each call a
-// flag, 0 for a call by value and any other for a lent one, and the frame; the last frame may be shorter. The refusal of
-// each call, or 0, is written as far as there is room.
+// A list of calls in bytes: for each call a flag, 0 for a call by value and any other for a lent one, and the frame; the
+// last frame may be shorter.
+#[derive(Drop)]
+struct Calls<'a>(&'a [u8]);
+
+impl<'a> Iterator for Calls<'a> {
+    ghost use Rattle.std.specs.Iterator.{YieldsFirstBy, item_count};
+    ghost use Rattle.area.specs.Replay.{call_in, calls_of};
+
+    type Item = (Form, &'a [u8]);
+
+    ghost next_gives = { YieldsFirstBy (λ call. call_in call.0 call.1.now) (λ s. calls_of s.0.now) };
+
+    ghost remaining = { item_count (λ s. calls_of s.0.now) };
+
+    fn next(&mut self) -> Option<(Form, &'a [u8])> {
+        let (by, after) = self.0.split_first()?;
+        let (frame, rest) = after.split_at(FRAME.min(after.len()));
+        self.0 = rest;
+        Some((Form::from(*by), frame))
+    }
+}
+
+// Stays: refusals as numbers in `refusals`. The claim lists what the calls tell, 0 for an accepted one.
+// The calls by table T, one after another from a default state, and the state after them. The refusal of each call, or 0,
+// is written as far as there is room.
 pub fn replay(calls: &[u8], refusals: &mut [u32]) -> State
     ensures { Replayed calls.now result refusals.old refusals.new }
 {
     let mut state = State::default();
-    let mut at = 0;
-    let mut i = 0;
-    while at < calls.len() {
-        let by = calls[at];
-        let start = at + 1;
-        let end = frame_end(calls, start);
-        let none: [u8; 0] = [];
-        let answer = call_by(state, by, &calls[start..end], &none);
-        let outcome = answer.outcome;
-        put(refusals, i, outcome.refusal);
-        state = answer.state;
-        at = end;
-        i += 1;
+    for (i, (form, frame)) in Calls(calls).enumerate() {
+        let answer = call_by(state, form, frame, &[]);
+        // Stays: of a slice after `get_mut` a proof knows the length and no element.
+        if i < refusals.len() {
+            refusals[i] = number(&answer);
+        }
+        state = state_after(state, &answer);
     }
     state
 }

@@ -1,41 +1,38 @@
 // The space that a frame begins with: what is available, less the bars, and what of it the content is clipped to.
-ghost use Rattle.std.specs.Prelude.{◌≡◌, ◌<◌};
-ghost use Rattle.area.specs.Frame.{Whole, frame_of};
+ghost use Rattle.std.specs.Prelude.{◌≡◌};
+ghost use Rattle.numbers.specs.Axis.{index_of, other_of};
 ghost use Rattle.area.specs.Space as Spec;
 
+use crate::frame::Frame;
 use crate::geometry::shows_bar;
 use crate::prepared::AxisSpace;
-use crate::{host_words, settings_words, style_words};
-use numbers::{Pos2, Rangef, Rect, flag_as_number};
+use numbers::{Axis, Pos2, Rangef, Rect, flag_as_number};
 
-// The space of axis d; the bar of the other axis e, if it was shown, stands in its way.
-pub fn space_of(frame: &[u8], was_shown: bool, d: usize, e: usize) -> AxisSpace
-    requires { Whole frame.now × (d < 2) × (e < 2) }
-    ensures { result ≡ Spec.space_of (frame_of frame.now) was_shown d e }
+// The space of axis d; the bar of the other axis, if it was shown, stands in its way.
+#[tactic(auto, unfolding(crate::specs::Space::space_of, crate::specs::Space::current_bar_use_of))]
+pub fn space_of(frame: &Frame, was_shown: bool, d: Axis) -> AxisSpace
+    ensures { result ≡ Spec.space_of frame.now was_shown (index_of d) (index_of (other_of d)) }
 {
     // As far as the last frame tells whether the bar shows.
-    let show_bar = shows_bar(
-        frame,
-        was_shown,
-        settings_words::direction_enabled(frame, e),
-    );
+    let show_bar = shows_bar(frame, was_shown, frame.direction_enabled(d.other()));
     let bar_use = bar_use_of(
-        style_words::floating(frame),
-        style_words::allocated_width(frame),
+        frame.floating(),
+        frame.allocated_width(),
         show_bar,
-        host_words::bar_factor(frame, e),
+        frame.bar_factor(d.other()),
     );
     space_by(
-        settings_words::direction_enabled(frame, d),
-        settings_words::max_size(frame, d),
-        settings_words::min_scrolled_size(frame, d),
+        frame.direction_enabled(d),
+        frame.max_size(d),
+        frame.min_scrolled_size(d),
         bar_use,
-        host_words::available_side(frame, d),
-        host_words::clip_side(frame, d),
+        frame.available_side(d),
+        frame.clip_side(d),
     )
 }
 
 // What the bar leaves of the available side, and what of that the content is clipped to.
+#[tactic(auto, unfolding(crate::specs::Space::space_by))]
 fn space_by(
     direction_enabled: bool,
     max_size: f32,
@@ -64,6 +61,7 @@ fn space_by(
 }
 
 // The rectangle through which the content is seen.
+#[tactic(auto, unfolding(crate::specs::Space::inner_rect))]
 pub fn inner_rect(x: AxisSpace, y: AxisSpace) -> Rect
     ensures { result ≡ Spec.inner_rect x y }
 {
@@ -74,6 +72,7 @@ pub fn inner_rect(x: AxisSpace, y: AxisSpace) -> Rect
 }
 
 // A floating bar takes its width at once, a solid one little by little as it opens.
+#[tactic(auto, unfolding(crate::specs::Space::bar_use_of))]
 fn bar_use_of(floating: bool, allocated_width: f32, show_bar: bool, show_bar_factor: f32) -> f32
     ensures { result ≡ Spec.bar_use_of floating allocated_width show_bar show_bar_factor }
 {
@@ -84,6 +83,7 @@ fn bar_use_of(floating: bool, allocated_width: f32, show_bar: bool, show_bar_fac
 }
 
 // An area that scrolls keeps a least size, so that one inside another does not collapse.
+#[tactic(auto, unfolding(crate::specs::Space::inner_size_of))]
 fn inner_size_of(direction_enabled: bool, size: f32, min_scrolled_size: f32) -> f32
     ensures { result ≡ Spec.inner_size_of direction_enabled size min_scrolled_size }
 {
@@ -94,6 +94,7 @@ fn inner_size_of(direction_enabled: bool, size: f32, min_scrolled_size: f32) -> 
 }
 
 // Content is cut at the inner rectangle only where it scrolls, and never beyond the clip around the area.
+#[tactic(auto, unfolding(crate::specs::Space::content_clip_of))]
 fn content_clip_of(direction_enabled: bool, inner: Rangef, bar_use: f32, clip: Rangef) -> Rangef
     ensures { result ≡ Spec.content_clip_of direction_enabled inner bar_use clip }
 {
@@ -108,6 +109,7 @@ fn content_clip_of(direction_enabled: bool, inner: Rangef, bar_use: f32, clip: R
 }
 
 // Rect::intersect along one axis; where both ends are equal zeros the second one's sign stays.
+#[tactic(auto, unfolding(crate::specs::Space::intersect_side_of))]
 fn intersect_side(a: Rangef, b: Rangef) -> Rangef
     ensures { result ≡ Spec.intersect_side_of a b }
 {

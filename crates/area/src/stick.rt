@@ -5,6 +5,7 @@ ghost use Rattle.area.specs.Stick as Spec;
 use crate::prepared::AxisMotion;
 
 // A list that stood on its end follows it, unless the content asked for another place in this frame.
+#[tactic(auto, unfolding(crate::specs::Stick::stick_of))]
 pub fn stick_axis(
     m: AxisMotion,
     stick_to_end: bool,
@@ -15,12 +16,9 @@ pub fn stick_axis(
 {
     let sticks = stick_to_end & m.scroll_stuck_to_end & !had_explicit_scroll_adjustment;
     if sticks {
-        let offset_target = m.offset_target;
         return AxisMotion {
             offset: max_offset,
-            vel: m.vel,
-            offset_target,
-            scroll_stuck_to_end: m.scroll_stuck_to_end,
+            ..m
         };
     }
     m

@@ -1,27 +1,28 @@
 // The wheel: who hears it, and what a turn of it does to one axis.
-ghost use Rattle.std.specs.Prelude.{◌≡◌, ◌<◌};
-ghost use Rattle.area.specs.Frame.{Whole, frame_of};
+ghost use Rattle.std.specs.Prelude.{◌≡◌};
+ghost use Rattle.numbers.specs.Axis.{index_of};
+ghost use Rattle.area.specs.Frame.{frame_of};
 ghost use Rattle.area.specs.WheelTurn as Spec;
 
 use crate::axis_physics::physics_of;
 use crate::begin::dt_of;
 use crate::extent::AxisExtent;
-use crate::geometry::{pick, rect_contains_pointer};
+use crate::frame::Frame;
+use crate::geometry::rect_contains_pointer;
 use crate::prepared::{AxisBefore, AxisMotion, AxisSpace};
-use crate::state::{MaybeTarget, OffsetTarget};
-use crate::{host_words, settings_words, style_words};
 use axis::{AxisPhysics, WheelScroll};
-use numbers::Rect;
+use numbers::{Axis, Rect};
 
 // Whether the area hears the wheel, and whether both of its deltas move the only direction that is enabled.
-#[derive(Clone, Copy)]
+// Stays: two flags. They are two facts of the Rust, and the second stands also where nothing is heard.
+#[derive(Clone, Copy, Debug, PartialEq)]
 pub struct WheelHeard {
     pub heard: bool,
     pub always_scroll_enabled_direction: bool,
 }
 
 // One axis after the wheel. A consumed delta is not left to an enclosing area.
-#[derive(Clone, Copy)]
+#[derive(Clone, Copy, Debug, PartialEq)]
 pub struct Turned {
     pub motion: AxisMotion,
     pub rubber_banding: bool,
@@ -30,26 +31,23 @@ pub struct Turned {
 }
 
 // The pointer is over the outer rectangle, or drags the background.
-pub fn hear_wheel(frame: &[u8], outer_rect: Rect, is_dragging_background: bool) -> WheelHeard
-    requires { Whole frame.now }
-    ensures { result ≡ Spec.heard_of (frame_of frame.now) outer_rect is_dragging_background }
+#[tactic(auto, unfolding(crate::specs::WheelTurn::heard_of))]
+pub fn hear_wheel(frame: &Frame, outer_rect: Rect, is_dragging_background: bool) -> WheelHeard
+    ensures { result ≡ Spec.heard_of frame.now outer_rect is_dragging_background }
 {
-    let only = settings_words::direction_enabled(frame, 0)
-        != settings_words::direction_enabled(frame, 1);
+    let only = frame.direction_enabled(Axis::X) != frame.direction_enabled(Axis::Y);
     let over = rect_contains_pointer(frame, outer_rect);
     WheelHeard {
-        heard: settings_words::mouse_wheel(frame)
-            & host_words::enabled(frame)
-            & (over | is_dragging_background),
-        always_scroll_enabled_direction: style_words::always_scroll_the_only_direction(frame)
-            & only,
+        heard: frame.mouse_wheel() & frame.enabled() & (over | is_dragging_background),
+        always_scroll_enabled_direction: frame.always_scroll_the_only_direction() & only,
     }
 }
 
 // Turns one axis, if it is enabled and the wheel is heard; rubber_banding is begin's.
+#[tactic(auto, unfolding(crate::specs::WheelTurn::turned_of, crate::specs::WheelTurn::wheel_physics_of))]
 pub fn turn_axis(
-    frame: &[u8],
-    d: usize,
+    frame: &Frame,
+    d: Axis,
     before: AxisBefore,
     space: AxisSpace,
     extent: AxisExtent,
@@ -57,15 +55,14 @@ pub fn turn_axis(
     motion: AxisMotion,
     rubber_banding: bool,
 ) -> Turned
-    requires { Whole frame.now × (d < 2) }
-    ensures answers { result ≡ Spec.turned_of (frame_of frame.now) d before space extent wheel motion rubber_banding }
-    ensures holds { Spec.TurnHolds frame.now d before space extent wheel motion result }
+    ensures answers { result ≡ Spec.turned_of frame.now (index_of d) before space extent wheel motion rubber_banding }
+    ensures holds { (bytes : _) → frame.now ≡ frame_of bytes → Spec.TurnHolds bytes (index_of d) before space extent wheel motion result }
 {
-    let enabled = settings_words::direction_enabled(frame, d);
+    let enabled = frame.direction_enabled(d);
     if wheel.heard & enabled {
         // We know this frame's bounds now; extent and rubber band stay those of `begin`.
         let physics = physics_of(
-            style_words::kinetic(frame),
+            frame.kinetic(),
             enabled,
             before.content_is_too_large,
             extent.max_offset,
@@ -89,24 +86,27 @@ pub fn turn_axis(
 }
 
 // A wheel's delta points against the offset. With one direction only, either way of turning moves it, without shift.
-fn wheel_scroll(frame: &[u8], d: usize, always_scroll_enabled_direction: bool) -> WheelScroll
-    requires { Whole frame.now × (d < 2) }
-    ensures { result ≡ Spec.wheel_scroll_of (frame_of frame.now) d always_scroll_enabled_direction }
+#[tactic(auto, unfolding(crate::specs::WheelTurn::wheel_scroll_of, crate::specs::Geometry::pick_of))]
+fn wheel_scroll(frame: &Frame, d: Axis, always_scroll_enabled_direction: bool) -> WheelScroll
+    ensures { result ≡ Spec.wheel_scroll_of frame.now (index_of d) always_scroll_enabled_direction }
 {
-    let both = host_words::smooth_scroll_delta(frame, 0)
-        + host_words::smooth_scroll_delta(frame, 1);
-    let own = host_words::smooth_scroll_delta(frame, d);
-    let scroll_delta = pick(always_scroll_enabled_direction, both, own)
-        * settings_words::wheel_scroll_multiplier(frame, d);
+    let both = frame.smooth_scroll_delta(Axis::X) + frame.smooth_scroll_delta(Axis::Y);
+    let own = frame.smooth_scroll_delta(d);
+    let delta = if always_scroll_enabled_direction {
+        both
+    } else {
+        own
+    };
     WheelScroll {
-        delta: -scroll_delta,
-        source: host_words::source(frame),
-        can_chain_to_parent: host_words::scrolling_ancestor(frame),
-        dt: dt_of(host_words::stable_dt(frame)),
+        delta: -(delta * frame.wheel_scroll_multiplier(d)),
+        source: frame.source(),
+        can_chain_to_parent: frame.scrolling_ancestor(),
+        dt: dt_of(frame.stable_dt()),
     }
 }
 
 // A consumed turn ends sticking and a target under way. One that is not, as a delta of 0, may still clear the bounce flag.
+#[tactic(auto, unfolding(crate::specs::WheelTurn::turned_by))]
 fn turn_by(
     physics: AxisPhysics,
     scroll: WheelScroll,
@@ -116,16 +116,13 @@ fn turn_by(
 ) -> Turned
     ensures { result ≡ Spec.turned_by physics scroll motion rubber_banding bounced_this_momentum }
 {
-    let offset_target = motion.offset_target;
     let turn = physics.wheel(motion.offset, motion.vel, scroll, bounced_this_momentum);
     if turn.consumed {
         return Turned {
             motion: AxisMotion {
                 offset: turn.offset,
                 vel: turn.vel,
-                offset_target: OffsetTarget {
-                    target: MaybeTarget::Nothing,
-                },
+                offset_target: None,
                 scroll_stuck_to_end: false,
             },
             rubber_banding: physics.is_rubber_banding(turn.offset),
@@ -137,8 +134,7 @@ fn turn_by(
         motion: AxisMotion {
             offset: turn.offset,
             vel: turn.vel,
-            offset_target,
-            scroll_stuck_to_end: motion.scroll_stuck_to_end,
+            ..motion
         },
         rubber_banding,
         bounced_this_momentum: turn.bounced_this_momentum,

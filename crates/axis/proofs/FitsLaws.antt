@@ -1,10 +1,11 @@
 -- Every number that drag, step, wheel and the scroll target of an axis leave is one that binary32 holds, if those that they pass on are.
 -- An operation rounds, so what it gives always is. Assumes nothing.
-use mathlib.Core.Bool.{Bool, true, false, cond, not, ◌&&◌, ◌||◌}
+use mathlib.Core.Bool.{Bool, not, ◌&&◌, ◌||◌}
 use lib.Ieee.{Float, nan, inf, fin, binary32, fits, lt, le, eq, ne}
 use lib.Ieee.Fits.{add-fits, mul-fits, div-fits, nan-fits, inf-fits}
 use lib.Ieee.Bits.{of_bits-fits}
 use lib.Dec.{T}
+use Rattle.numbers.proofs.TestLaws.{either}
 use Rattle.numbers.specs.F32.{plus, minus, times, zero}
 use Rattle.numbers.specs.Scalar.{with_sign, sign_bit, copysign_of, max_of, min_of}
 use Rattle.numbers.specs.Range.{clamp_of, contains_of}
@@ -28,11 +29,6 @@ abbrev pub Is32 : Float → Type 0
 Is32 x = T (fits binary32 x)
 
 -- ---- what passes a number on
-
--- both branches
-pub either : {A : Type 0} (P : A → Type 0) (b : Bool) (x y : A) → P x → P y → P (cond b x y)
-either P true x y p q = p
-either P false x y p q = q
 
 pub zero_held : Is32 zero
 zero_held = of_bits-fits binary32 0

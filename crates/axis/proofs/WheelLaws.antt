@@ -1,6 +1,6 @@
 -- Which wheel turns are taken: the wheel's definition is under the law of specs/WheelLaw.antt. Assumes nothing.
-use Rattle.std.specs.Prelude.{◌≡◌, Bool, true, false, cond, not, ◌&&◌, ◌||◌, T, eqb}
-use mathlib.Core.Path.{refl, sym, ap, ◌∙◌}
+use Rattle.std.specs.Prelude.{◌≡◌, Bool, true, false, cond, not, ◌&&◌, ◌||◌, T, eqb, Option, Some, None, Result, Ok, Err, IfOk}
+use mathlib.Core.Path.{refl, sym, ap, ◌∙◌, subst}
 use mathlib.Core.Bool.{true≢false, false≢true}
 use native.Mathlib.Omega.{arith}
 use borrow.Author.Tests.{eqb-true, eq-eqb, not-false}
@@ -13,24 +13,25 @@ use Rattle.numbers.proofs.ClampLaws.{IsNumber, finite_number, lesser_number, gre
 use Rattle.numbers.proofs.DifferenceLaws.{differ, same, less_differs}
 use Rattle.axis.specs.Physics.{axis_clamp_of, overscroll_of, is_overscrolled}
 use Rattle.axis.specs.Wheel as Wheel
-use Rattle.axis.specs.Wheel.{wheel_of, wheeled, consume_of, momentum_of, can_scroll, can_rubber_band}
+use Rattle.axis.specs.Wheel.{wheel_of, wheeled, wheeled_finite, consume_of, momentum_of, can_scroll, can_rubber_band}
 use Rattle.axis.specs.Limits.{exceeds_limit, axis_exceeds_limit, is_reversed}
-use Rattle.axis.specs.Call.{lowest_of, wheel_refusal, put_out_wheel, wheel_call_of}
+use Rattle.refusals.specs.declared.Refusal.{Refusal}
+use Rattle.refusals.specs.Refusal.{Answered, answered}
+use Rattle.axis.specs.Call.{lowest_of, wheel_refusal, put_out, wheel_call_of}
 use Rattle.axis.specs.WheelLaw.{source_number, from_momentum, can, overscroll, OverscrollIsOutside, band, corner, WheelHolds, IsCovered}
 use Rattle.axis.specs.declared.physics.AxisPhysics.{AxisPhysics}
 use Rattle.axis.specs.declared.wheel.WheelScroll.{WheelScroll}
 use Rattle.axis.specs.declared.wheel.WheelSource.{WheelSource}
 use Rattle.axis.specs.declared.wheel.Wheeled.{Wheeled}
-use Rattle.axis.specs.declared.call.WheelAnswer.{WheelAnswer}
 use Rattle.axis.proofs.LimitLaws.{within_limit}
 
 -- ---- "exactly": the tests of the definition are the law's
 
 -- the bounce flag after "if !is_momentum"
-abbrev flag_of : WheelSource → Bool → Bool
+abbrev flag_of : Option WheelSource → Bool → Bool
 flag_of source bounced = Wheel.is_momentum source && bounced
 
-same_grounds : (source : WheelSource) (rubber_band can outside parent bounced : Bool)
+same_grounds : (source : Option WheelSource) (rubber_band can outside parent bounced : Bool)
     → not ((rubber_band && Wheel.is_trackpad source && (can || outside || not parent || flag_of source bounced)) || can)
     ≡ (not can
     && not (rubber_band && (eqb (source_number source) 3 || eqb (source_number source) 4) && (can || outside || not parent))
@@ -38,21 +39,21 @@ same_grounds : (source : WheelSource) (rubber_band can outside parent bounced : 
 unfolding Wheel.is_trackpad Wheel.is_momentum
 same_grounds source false true outside parent bounced = refl
 same_grounds source false false outside parent bounced = refl
-same_grounds WheelSource.Nothing true true outside parent bounced = refl
-same_grounds WheelSource.Nothing true false outside parent bounced = refl
-same_grounds WheelSource.Unknown true true outside parent bounced = refl
-same_grounds WheelSource.Unknown true false outside parent bounced = refl
-same_grounds WheelSource.Wheel true true outside parent bounced = refl
-same_grounds WheelSource.Wheel true false outside parent bounced = refl
-same_grounds WheelSource.Trackpad true true outside parent bounced = refl
-same_grounds WheelSource.Trackpad true false true parent bounced = refl
-same_grounds WheelSource.Trackpad true false false true bounced = refl
-same_grounds WheelSource.Trackpad true false false false bounced = refl
-same_grounds WheelSource.Momentum true true outside parent bounced = refl
-same_grounds WheelSource.Momentum true false true parent bounced = refl
-same_grounds WheelSource.Momentum true false false true true = refl
-same_grounds WheelSource.Momentum true false false true false = refl
-same_grounds WheelSource.Momentum true false false false bounced = refl
+same_grounds None true true outside parent bounced = refl
+same_grounds None true false outside parent bounced = refl
+same_grounds (Some WheelSource.Unknown) true true outside parent bounced = refl
+same_grounds (Some WheelSource.Unknown) true false outside parent bounced = refl
+same_grounds (Some WheelSource.Wheel) true true outside parent bounced = refl
+same_grounds (Some WheelSource.Wheel) true false outside parent bounced = refl
+same_grounds (Some WheelSource.Trackpad) true true outside parent bounced = refl
+same_grounds (Some WheelSource.Trackpad) true false true parent bounced = refl
+same_grounds (Some WheelSource.Trackpad) true false false true bounced = refl
+same_grounds (Some WheelSource.Trackpad) true false false false bounced = refl
+same_grounds (Some WheelSource.Momentum) true true outside parent bounced = refl
+same_grounds (Some WheelSource.Momentum) true false true parent bounced = refl
+same_grounds (Some WheelSource.Momentum) true false false true true = refl
+same_grounds (Some WheelSource.Momentum) true false false true false = refl
+same_grounds (Some WheelSource.Momentum) true false false false bounced = refl
 
 -- ---- a turn that comes to `consume` is taken
 abbrev IsTaken : Wheeled → Type 0
@@ -88,11 +89,11 @@ wheel_leaves self offset vel scroll bounced =
     (taken_leaves offset vel (consume_of self offset vel scroll flag rubber_band) (consume_taken self offset vel scroll flag rubber_band)))
 
 -- ---- false exactly where delta is 0 or nothing takes the turn
-answered : (zero taken : Bool) (untaken consumed : Wheeled) → untaken.consumed ≡ false → IsTaken consumed
-    → not (cond zero untaken (cond (not taken) untaken consumed)).consumed ≡ (zero || not taken)
-answered true taken untaken consumed h k = ap not h
-answered false true untaken consumed h k = ap not k
-answered false false untaken consumed h k = ap not h
+untaken : (zero taken : Bool) (left consumed : Wheeled) → left.consumed ≡ false → IsTaken consumed
+    → not (cond zero left (cond (not taken) left consumed)).consumed ≡ (zero || not taken)
+untaken true taken left consumed h k = ap not h
+untaken false true left consumed h k = ap not k
+untaken false false left consumed h k = ap not h
 
 wheel_exactly : (self : AxisPhysics) (offset vel : Float) (scroll : WheelScroll) (bounced : Bool)
     → not (wheel_of self offset vel scroll bounced).consumed
@@ -101,20 +102,20 @@ unfolding wheel_of can_rubber_band can_scroll is_overscrolled overscroll_of axis
 wheel_exactly self offset vel scroll bounced =
     let flag = flag_of scroll.source bounced in
     let rubber_band = can_rubber_band self offset scroll flag in
-    answered (eq scroll.delta zero) (rubber_band || can_scroll self offset scroll.delta) (wheeled offset vel flag false)
+    untaken (eq scroll.delta zero) (rubber_band || can_scroll self offset scroll.delta) (wheeled offset vel flag false)
     (consume_of self offset vel scroll flag rubber_band) refl (consume_taken self offset vel scroll flag rubber_band)
     ∙ ap (λ (t : Bool). eq scroll.delta zero || t)
     (same_grounds scroll.source self.style.rubber_band (can self offset scroll) (ne (overscroll self offset) zero)
     scroll.can_chain_to_parent bounced)
 
 -- ---- a source other than Momentum
-no_momentum : (source : WheelSource) → eqb (source_number source) 4 ≡ false → Wheel.is_momentum source ≡ false
+no_momentum : (source : Option WheelSource) → eqb (source_number source) 4 ≡ false → Wheel.is_momentum source ≡ false
 unfolding Wheel.is_momentum
-no_momentum WheelSource.Nothing h = refl
-no_momentum WheelSource.Unknown h = refl
-no_momentum WheelSource.Wheel h = refl
-no_momentum WheelSource.Trackpad h = refl
-no_momentum WheelSource.Momentum h = h
+no_momentum None h = refl
+no_momentum (Some WheelSource.Unknown) h = refl
+no_momentum (Some WheelSource.Wheel) h = refl
+no_momentum (Some WheelSource.Trackpad) h = refl
+no_momentum (Some WheelSource.Momentum) h = h
 
 abbrev IsClear : Wheeled → Type 0
 IsClear w = w.bounced_this_momentum ≡ false
@@ -188,6 +189,11 @@ wheel_holds self offset vel scroll bounced covered = record {
   exactly = wheel_exactly self offset vel scroll bounced;
 }
 
+pub left_holds : (self : AxisPhysics) (offset vel : Float) (scroll : WheelScroll) (bounced : Bool) (left : Wheeled)
+    → left ≡ wheel_of self offset vel scroll bounced → IsCovered self scroll → WheelHolds self offset vel scroll bounced left
+left_holds self offset vel scroll bounced left e covered =
+    subst (WheelHolds self offset vel scroll bounced) (sym e) (wheel_holds self offset vel scroll bounced covered)
+
 -- ---- an accepted call is covered, and hands back what the wheel leaves
 none_lowest : (three four five six : Bool) → lowest_of three four five six ≡ 0 → (three ≡ false) × (four ≡ false) × (six ≡ false)
 unfolding lowest_of
@@ -238,8 +244,8 @@ passed_covered : (axis : AxisPhysics) (offset vel : Float) (scroll : WheelScroll
 passed_covered axis offset vel scroll is =
     (of_not_below axis.bounds.max axis.bounds.min (finite_number _ is.max) (finite_number _ is.min) is.ordered, is.delta)
 
-abbrev pub AcceptedHolds : AxisPhysics → Float → Float → WheelScroll → Bool → WheelAnswer → Type 0
-AcceptedHolds axis offset vel scroll bounced answer = answer.refusal ≡ 0 → WheelHolds axis offset vel scroll bounced answer.wheeled
+abbrev pub AcceptedHolds : AxisPhysics → Float → Float → WheelScroll → Bool → Answered Wheeled → Type 0
+AcceptedHolds axis offset vel scroll bounced answer = answer.refusal ≡ 0 → WheelHolds axis offset vel scroll bounced answer.value
 
 -- and so a call whose answer has no refusal
 pub call_passed : (axis : AxisPhysics) (offset vel : Float) (scroll : WheelScroll) (bounced : Bool) → (wheel_call_of axis offset vel scroll bounced).refusal ≡ 0
@@ -247,13 +253,13 @@ pub call_passed : (axis : AxisPhysics) (offset vel : Float) (scroll : WheelScrol
 unfolding wheel_call_of
 call_passed axis offset vel scroll bounced =
     let refusal = wheel_refusal axis offset vel scroll in
-    chosen (λ (answer : WheelAnswer). answer.refusal ≡ 0 → Passed axis offset vel scroll) (eqb refusal 0) _ _
+    chosen (λ (answer : Answered Wheeled). answer.refusal ≡ 0 → Passed axis offset vel scroll) (eqb refusal 0) _ _
     (λ t h. passed axis offset vel scroll (eqb-true refusal 0 t))
     (λ t h. absurd (true≢false (sym (eq-eqb refusal 0 h) ∙ t)))
 
 pub call_holds : (axis : AxisPhysics) (offset vel : Float) (scroll : WheelScroll) (bounced : Bool)
     → AcceptedHolds axis offset vel scroll bounced (wheel_call_of axis offset vel scroll bounced)
-unfolding wheel_call_of put_out_wheel
+unfolding wheel_call_of put_out wheeled_finite
 call_holds axis offset vel scroll bounced =
     let P = AcceptedHolds axis offset vel scroll bounced in
     let refusal = wheel_refusal axis offset vel scroll in
@@ -263,6 +269,14 @@ call_holds axis offset vel scroll bounced =
     (λ h. wheel_holds axis offset vel scroll bounced (passed_covered axis offset vel scroll (passed axis offset vel scroll (eqb-true refusal 0 t))))
     (λ h. absurd (omega (arith, h))))
     (λ t h. absurd (true≢false (sym (eq-eqb refusal 0 h) ∙ t)))
+
+-- and so an answer that is not refused
+pub ok_holds : (axis : AxisPhysics) (offset vel : Float) (scroll : WheelScroll) (bounced : Bool) (given : Wheeled) (answer : Result Wheeled Refusal)
+    → answered given answer ≡ wheel_call_of axis offset vel scroll bounced
+    → IfOk answer (λ w. WheelHolds axis offset vel scroll bounced w)
+ok_holds axis offset vel scroll bounced given (Ok w) e =
+    subst (AcceptedHolds axis offset vel scroll bounced) (sym e) (call_holds axis offset vel scroll bounced) refl
+ok_holds axis offset vel scroll bounced given (Err refusal) e = tt
 
 -- ---- an overscroll other than 0 is an offset outside the bounds
 abbrev Is32 : Float → Type 0

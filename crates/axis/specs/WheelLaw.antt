@@ -1,6 +1,6 @@
 -- Document 02's K6, "Which wheel turns are taken": what integrators read from the wheel's answer. Nothing of the wheel's own definition is
 -- named here, so that the law can be read by itself (docs/WHEEL.md has it row by row).
-use Rattle.std.specs.Prelude.{◌≡◌, ℕ, Bool, true, false, cond, not, ◌&&◌, ◌||◌, ◌==◌}
+use Rattle.std.specs.Prelude.{◌≡◌, ℕ, Bool, true, false, cond, not, ◌&&◌, ◌||◌, ◌==◌, Option, Some, None}
 use Rattle.std.specs.Prelude.{Float}
 use Rattle.std.specs.Float.Ieee.{lt, le, eq, ne}
 use Rattle.numbers.specs.F32.{minus, zero}
@@ -11,12 +11,12 @@ use Rattle.axis.specs.declared.wheel.WheelSource.{WheelSource}
 use Rattle.axis.specs.declared.wheel.Wheeled.{Wheeled}
 
 -- document 01's numbers of the sources: "0 none, 1 Unknown, 2 Wheel, 3 Trackpad, 4 Momentum"
-abbrev pub source_number : WheelSource → ℕ
-source_number WheelSource.Nothing = 0
-source_number WheelSource.Unknown = 1
-source_number WheelSource.Wheel = 2
-source_number WheelSource.Trackpad = 3
-source_number WheelSource.Momentum = 4
+abbrev pub source_number : Option WheelSource → ℕ
+source_number None = 0
+source_number (Some WheelSource.Unknown) = 1
+source_number (Some WheelSource.Wheel) = 2
+source_number (Some WheelSource.Trackpad) = 3
+source_number (Some WheelSource.Momentum) = 4
 
 abbrev pub from_trackpad : WheelScroll → Bool
 from_trackpad scroll = source_number scroll.source == 3

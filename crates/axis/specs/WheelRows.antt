@@ -1,5 +1,5 @@
 -- docs/WHEEL.md, row by row: what the law alone (specs/WheelLaw.antt) says of who takes a turn.
-use Rattle.std.specs.Prelude.{◌≡◌, Bool, true, false, ◌||◌}
+use Rattle.std.specs.Prelude.{◌≡◌, Bool, true, false, ◌||◌, Some}
 use Rattle.std.specs.Prelude.{Float}
 use Rattle.std.specs.Float.Ieee.{eq, ne}
 use Rattle.numbers.specs.F32.{zero}
@@ -40,11 +40,11 @@ pub record WheelRows (axis : AxisPhysics) (offset : Float) (scroll : WheelScroll
       → Outside axis offset true → taken ≡ true
   pub trackpads_no_parent : Trackpads scroll true → RubberBand axis true → DeltaIs0 scroll false → CanMove axis offset scroll false
       → Outside axis offset false → Parent scroll false → taken ≡ true
-  pub trackpad_nobody : scroll.source ≡ WheelSource.Trackpad → RubberBand axis true → DeltaIs0 scroll false → CanMove axis offset scroll false
+  pub trackpad_nobody : scroll.source ≡ Some WheelSource.Trackpad → RubberBand axis true → DeltaIs0 scroll false → CanMove axis offset scroll false
       → Outside axis offset false → Parent scroll true → taken ≡ false
-  pub momentum_corner : scroll.source ≡ WheelSource.Momentum → RubberBand axis true → DeltaIs0 scroll false → CanMove axis offset scroll false
+  pub momentum_corner : scroll.source ≡ Some WheelSource.Momentum → RubberBand axis true → DeltaIs0 scroll false → CanMove axis offset scroll false
       → Outside axis offset false → Parent scroll true → bounced ≡ true → taken ≡ true
-  pub momentum_nobody : scroll.source ≡ WheelSource.Momentum → RubberBand axis true → DeltaIs0 scroll false → CanMove axis offset scroll false
+  pub momentum_nobody : scroll.source ≡ Some WheelSource.Momentum → RubberBand axis true → DeltaIs0 scroll false → CanMove axis offset scroll false
       → Outside axis offset false → Parent scroll true → bounced ≡ false → taken ≡ false
 
 -- whatever keeps the law has these rows (proofs/WheelRowLaws.antt)

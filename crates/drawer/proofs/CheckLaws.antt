@@ -15,7 +15,9 @@ use Rattle.drawer.proofs.TestLaws.{clash}
 use Rattle.drawer.proofs.TimesLaws.{times_here, times_more}
 use Rattle.drawer.proofs.Links.{Links}
 use Rattle.drawer.specs.Drawer.{id_in, has_id, no_id_twice, under_head, is_state, are_states}
-use Rattle.drawer.specs.Tours.{suits, is_placed, tour_from, has_from, twice_from}
+use Rattle.std.specs.Prelude.{Some, None}
+use Rattle.std.specs.List.{list_any}
+use Rattle.drawer.specs.Tours.{suits, is_placed, tour_from, ids_from, holds_twice}
 use Rattle.drawer.specs.Search.{is_record}
 use Rattle.drawer.specs.declared.tour.Tour.{Tour}
 use Rattle.drawer.proofs.ChainLaws.{links_same}
@@ -97,7 +99,7 @@ meet_last width w p q r l m h k x y =
 
 -- ---- what a tour finds
 abbrev pub made : ℕ → ℕ → Bool → Tour
-made count last up = record { ok = true; count = count; last = last; up = up }
+made count last up = record { count = count; last = last; up = up }
 
 abbrev pub ascends : (width : ℕ) → (ℕ → ℕ) → ℕ → ℕ → List ℕ → Bool
 ascends width w last prev [] = true
@@ -113,7 +115,7 @@ and_assoc false b c = refl
 
 module _ (width : ℕ) (w : ℕ → ℕ) (n k : ℕ) where
   pub tour_of : (m p : ℕ) (l : List ℕ) (count last prev : ℕ) (up : Bool) → Links width w p l → Placed width w n k l → length l ≤ m
-      → tour_from width w n k m (w p) count last prev up ≡ made (count + length l) (last_of last l) (up && ascends width w last prev l)
+      → tour_from width w n k m (w p) count last prev up ≡ Some (made (count + length l) (last_of last l) (up && ascends width w last prev l))
   unfolding tour_from
   tour_of zero p [] count last prev up h placed fits = rw (eq-eqb (w p) 0 h, add-zero, and_true up)
   tour_of zero p (r ∷ l) count last prev up h placed fits = absurd (not-suc-le-zero fits)
@@ -121,33 +123,35 @@ module _ (width : ℕ) (w : ℕ → ℕ) (n k : ℕ) where
   tour_of (suc m) p (r ∷ l) count last prev up h placed fits =
       rw (h.0, ne_eqb r 0 (λ z. omega arith), placed.0)
       (tour_of m (width * r) l (count + 1) r (id_in width w r) (up && (eqb last 0 || ltb prev (id_in width w r))) h.2 placed.1 (omega arith)
-      ∙ ap (λ (i : ℕ). made i (last_of r l) ((up && (eqb last 0 || ltb prev (id_in width w r))) && ascends width w r (id_in width w r) l)) (one count (length l))
-      ∙ ap (made (count + suc (length l)) (last_of r l)) (and_assoc up (eqb last 0 || ltb prev (id_in width w r)) (ascends width w r (id_in width w r) l)))
+      ∙ ap (λ (i : ℕ). Some (made i (last_of r l) ((up && (eqb last 0 || ltb prev (id_in width w r))) && ascends width w r (id_in width w r) l))) (one count (length l))
+      ∙ ap (λ (b : Bool). Some (made (count + suc (length l)) (last_of r l) b)) (and_assoc up (eqb last 0 || ltb prev (id_in width w r)) (ascends width w r (id_in width w r) l)))
     where
       one : (a b : ℕ) → a + 1 + b ≡ a + suc b
       one a b = omega arith
 
-  pub tour_found : (m p count last prev : ℕ) (up : Bool) → (tour_from width w n k m (w p) count last prev up).ok ≡ true
+  pub tour_found : (m p count last prev : ℕ) (up : Bool) (t : Tour) → tour_from width w n k m (w p) count last prev up ≡ Some t
       → (l : List ℕ) × Links width w p l × Placed width w n k l × (length l ≤ m)
   unfolding tour_from
-  tour_found zero p count last prev up e = ([], eqb-true (w p) 0 e, tt, omega arith)
-  tour_found (suc m) p count last prev up e =
-      go (eqb (w p) 0) refl (is_placed width w n k (w p)) refl e
-      (λ f. tour_found m (width * w p) (count + 1) (w p) (id_in width w (w p)) (up && (eqb last 0 || ltb prev (id_in width w (w p)))) f)
+  tour_found zero p count last prev up t e = go (eqb (w p) 0) refl e
     where
-      rest : Tour
-      rest = tour_from width w n k m (w (width * w p)) (count + 1) (w p) (id_in width w (w p)) (up && (eqb last 0 || ltb prev (id_in width w (w p))))
-
+      go : (b : Bool) → eqb (w p) 0 ≡ b → cond b (Some (record { count = count; last = last; up = up })) None ≡ Some t
+          → (l : List ℕ) × Links width w p l × Placed width w n k l × (length l ≤ 0)
+      go true b f = ([], eqb-true (w p) 0 b, tt, omega arith)
+      go false b f = cc
+  tour_found (suc m) p count last prev up t e =
+      go (eqb (w p) 0) refl (is_placed width w n k (w p)) refl e
+      (λ f. tour_found m (width * w p) (count + 1) (w p) (id_in width w (w p)) (up && (eqb last 0 || ltb prev (id_in width w (w p)))) t f)
+    where
       go : (b : Bool) → eqb (w p) 0 ≡ b → (d : Bool) → is_placed width w n k (w p) ≡ d
-          → (cond b (record { ok = true; count = count; last = last; up = up })
-          (cond d (tour_from width w n k m (w (width * w p)) (count + 1) (w p) (id_in width w (w p)) (up && (eqb last 0 || ltb prev (id_in width w (w p))))) (record { ok = false; count = count; last = last; up = up }))).ok
-          ≡ true
-          → ((tour_from width w n k m (w (width * w p)) (count + 1) (w p) (id_in width w (w p)) (up && (eqb last 0 || ltb prev (id_in width w (w p))))).ok ≡ true
+          → cond b (Some (record { count = count; last = last; up = up }))
+          (cond d (tour_from width w n k m (w (width * w p)) (count + 1) (w p) (id_in width w (w p)) (up && (eqb last 0 || ltb prev (id_in width w (w p))))) None)
+          ≡ Some t
+          → (tour_from width w n k m (w (width * w p)) (count + 1) (w p) (id_in width w (w p)) (up && (eqb last 0 || ltb prev (id_in width w (w p)))) ≡ Some t
           → (l : List ℕ) × Links width w (width * w p) l × Placed width w n k l × (length l ≤ m))
           → (l : List ℕ) × Links width w p l × Placed width w n k l × (length l ≤ suc m)
       go true b d p' f more = ([], eqb-true (w p) 0 b, tt, omega arith)
       go false b true p' f more = let s = more f in (w p ∷ s.0, (refl, omega (arith, eqb-false (w p) 0 b), s.1), (p', s.2), omega (arith, s.3))
-      go false b false p' f more = absurd (clash false f refl)
+      go false b false p' f more = cc
 
 -- ---- ids
 or_right : (a b : Bool) → a ≡ false → a || b ≡ true → b ≡ true
@@ -176,20 +180,16 @@ Below n (r ∷ l) = (r < n) × Below n l
 record_true : (n r : ℕ) → 0 < r → r < n → is_record n r ≡ true
 record_true n r h k = and_both (ltb 0 r) (ltb r n) (lt-ltb 0 r h) (lt-ltb r n k)
 
-has_of : (width : ℕ) (w : ℕ → ℕ) (n x m p : ℕ) (l : List ℕ) → Links width w p l → Below n l → length l ≤ m → has_from width w n x m (w p) ≡ has_id width w x l
-unfolding has_from has_id
+has_of : (width : ℕ) (w : ℕ → ℕ) (n x m p : ℕ) (l : List ℕ) → Links width w p l → Below n l → length l ≤ m → list_any (λ y. eqb y x) (ids_from width w n m (w p)) ≡ has_id width w x l
+unfolding ids_from has_id
 has_of width w n x zero p [] h below fits = refl
 has_of width w n x zero p (r ∷ l) h below fits = absurd (not-suc-le-zero fits)
 has_of width w n x (suc m) p [] h below fits = rw (h)
 has_of width w n x (suc m) p (r ∷ l) h below fits =
-    rw (h.0, record_true n r h.1 below.0, has_of width w n x m (width * r) l h.2 below.1 (omega arith)) (or_cond (eqb (id_in width w r) x) (has_id width w x l))
-  where
-    or_cond : (a b : Bool) → cond a true b ≡ a || b
-    or_cond true b = refl
-    or_cond false b = refl
+    rw (h.0, record_true n r h.1 below.0, has_of width w n x m (width * r) l h.2 below.1 (omega arith))
 
-pub twice_of : (width : ℕ) (w : ℕ → ℕ) (n m p : ℕ) (l : List ℕ) → Links width w p l → Below n l → length l ≤ m → twice_from width w n m (w p) ≡ not (no_id_twice width w l)
-unfolding twice_from no_id_twice
+pub twice_of : (width : ℕ) (w : ℕ → ℕ) (n m p : ℕ) (l : List ℕ) → Links width w p l → Below n l → length l ≤ m → holds_twice (ids_from width w n m (w p)) ≡ not (no_id_twice width w l)
+unfolding ids_from holds_twice no_id_twice
 twice_of width w n zero p [] h below fits = refl
 twice_of width w n zero p (r ∷ l) h below fits = absurd (not-suc-le-zero fits)
 twice_of width w n (suc m) p [] h below fits = rw (h)
@@ -200,11 +200,11 @@ twice_of width w n (suc m) p (r ∷ l) h below fits =
       has_of width w n (id_in width w r) m (width * r) l h.2 below.1 (omega arith),
       twice_of width w n m (width * r) l h.2 below.1 (omega arith),
     )
-    (or_cond (has_id width w (id_in width w r) l) (no_id_twice width w l))
+    (or_not (has_id width w (id_in width w r) l) (no_id_twice width w l))
   where
-    or_cond : (a b : Bool) → cond a true (not b) ≡ not (not a && b)
-    or_cond true b = refl
-    or_cond false b = refl
+    or_not : (a b : Bool) → a || not b ≡ not (not a && b)
+    or_not true b = refl
+    or_not false b = refl
 
 -- ---- what a record shows, and what the chain must
 placed_inside : (width : ℕ) (w : ℕ → ℕ) (n k r : ℕ) → is_placed width w n k r ≡ true → (r < n) × (suits width w k r ≡ true)

@@ -1,5 +1,5 @@
 -- What a drawer is, in the parts that the laws use; and the record of an id.
-use mathlib.Core.Path.{◌≡◌, sym, ap, subst}
+use mathlib.Core.Path.{◌≡◌}
 use mathlib.Core.Bool.{Bool, true, ◌&&◌}
 use mathlib.Core.List.{List, [], ◌∷◌}
 use Prim.Native.Nat.{ℕ, ◌+◌, ◌*◌, ◌%◌, ◌<◌, ◌≤◌}
@@ -9,15 +9,14 @@ use lib.ListN.{length}
 use borrow.Author.Tests.{eqb-true}
 use Rattle.words.specs.Words.{word_at}
 use Rattle.numbers.proofs.TestLaws.{and_left, and_right}
-use Rattle.drawer.specs.Chains.{walk, times}
-use Rattle.drawer.proofs.TimesLaws.{times_append, times_here, times_more}
-use Rattle.drawer.proofs.Links.{Links, link_after}
+use Rattle.drawer.specs.Chains.{walk}
+use Rattle.drawer.proofs.Links.{Links}
 use Rattle.drawer.specs.Drawer.{id_in, is_whole, is_filled, is_drawer}
-use Rattle.drawer.specs.Search.{seek, records, record_of}
+use Rattle.drawer.specs.Search.{records, record_of}
 use Rattle.drawer.proofs.CheckLaws.{Below, placed_below}
 use Rattle.drawer.proofs.PassedLaws.{Fine, filled_fine, of_below}
 use Rattle.drawer.proofs.SeekLaws.{Stopped, stopped, stopped_at}
-use Rattle.drawer.proofs.WidthLaws.{past_heads, next_record}
+use Rattle.drawer.proofs.WidthLaws.{next_record}
 use Rattle.drawer.proofs.SizeLaws.{whole_parts}
 
 pub record Parts (width : ℕ) (s : List ℕ) : Type 0 where
@@ -42,10 +41,6 @@ parts width s e =
 
 pub head_low : (x : ℕ) → x % 16 < 16
 head_low x = omega arith
-
-after_room : (width : ℕ) (room p : ℕ) (a : List ℕ) → 4 * p + 4 ≤ room → ((r : ℕ) → 0 < times r a → 4 * (width * r) + 4 ≤ room) → 4 * link_after width p a + 4 ≤ room
-after_room width room p [] here all = here
-after_room width room p (r ∷ a) here all = after_room width room (width * r) a (omega (arith, all r (times_here r a))) (λ x h. all x (omega (arith, times_more x r a)))
 
 module _ (width : ℕ) (s : List ℕ) (d : Parts width s) where
   pub chain_fine : (k : ℕ) → k < 17 → Fine width (word_at s) (records width s) k (walk width (word_at s) (records width s) k)
@@ -75,15 +70,3 @@ module _ (width : ℕ) (s : List ℕ) (d : Parts width s) where
       go : (l : List ℕ) → Links width (word_at s) 16 l → Below (records width s) l → word_at s 16 < records width s
       go [] h b = absurd (omega (arith, h))
       go (r ∷ l) h b = omega (arith, h.0, b.0)
-
-  -- a link that a search stops at is a word of the buffer
-  pub seek_room : 16 < width → (stop : ℕ → Bool) (k : ℕ) → k < 17 → 4 * seek width stop (word_at s) (records width s) (records width s) k + 4 ≤ length s
-  seek_room wide stop k h =
-      let t = search_stops stop k h in
-      let f = chain_fine k h in
-      subst (λ (i : ℕ). 4 * i + 4 ≤ length s) (sym t.at)
-      (after_room width (length s) k t.front (omega (arith, d.size, past_heads width (records width s) d.some))
-      (λ r x. omega (arith, d.size, next_record width r (records width s) (member r (omega (arith, ap (times r) t.cut, times_append r t.front t.rest))))))
-    where
-      member : (r : ℕ) → 0 < times r (walk width (word_at s) (records width s) k) → r < records width s
-      member r x = of_below (records width s) (walk width (word_at s) (records width s) k) r (placed_below width (word_at s) (records width s) k (walk width (word_at s) (records width s) k) (chain_fine k h).placed) x

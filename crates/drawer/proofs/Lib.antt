@@ -1,3 +1,4 @@
+pub mod AnswerLaws
 pub mod WidthLaws
 pub mod Links
 pub mod TestLaws

@@ -179,18 +179,12 @@ laid_drawer s e = go (is_whole width (length s)) refl
         subst (λ (l : Left). is_drawer width l.drawer ≡ true) (sym (laid_whole s w)) (right n (bytes_of (fresh_to n n)) [] (fresh_holds n p.1 p.2))
     go false w = absurd (omega (arith, e, ap (λ (l : Left). l.refusal) (laid_not s w)))
 
-pub with_lists : (s d : List ℕ) (r : ℕ) → record { refusal = r; drawer = d } ≡ lay_on s
-    → (record { refusal = r; drawer = d } ≡ lay_on s)
-    × ((r ≡ 0 → is_drawer width d ≡ true) × ((r ≡ 0 → AllDrawerLists d) × (r ≡ 0 → AllAscend d)))
-with_lists s d r e =
+-- what a lay that is not refused leaves
+pub with_lists : (s d : List ℕ) → record { refusal = 0; drawer = d } ≡ lay_on s → (is_drawer width d ≡ true) × AllDrawerLists d × AllAscend d
+with_lists s d e =
     let left : (lay_on s).drawer ≡ d = ap (λ (l : Left). l.drawer) (sym e) in
-    let answer : (lay_on s).refusal ≡ r = ap (λ (l : Left). l.refusal) (sym e) in (
-      e,
-      (
-        (λ z. subst (λ (l : List ℕ). is_drawer width l ≡ true) left (laid_drawer s (answer ∙ z))),
-        (
-          (λ z. subst (λ (l : List ℕ). AllDrawerLists l) left (laid_lists s (answer ∙ z))),
-          (λ z. subst (λ (l : List ℕ). AllAscend l) left (laid_ascend s (answer ∙ z))),
-        ),
-      ),
+    let answer : (lay_on s).refusal ≡ 0 = ap (λ (l : Left). l.refusal) (sym e) in (
+      subst (λ (l : List ℕ). is_drawer width l ≡ true) left (laid_drawer s answer),
+      subst (λ (l : List ℕ). AllDrawerLists l) left (laid_lists s answer),
+      subst (λ (l : List ℕ). AllAscend l) left (laid_ascend s answer),
     )

@@ -8,7 +8,7 @@ use native.Mathlib.Numerals.{add-one}
 use native.Mathlib.Omega.{arith}
 use native.Mathlib.Decide.{ℕ_discrete}
 use lib.Dec.{eqb}
-use lib.ListN.{length, length-append, get_or, set, length-set, replicate}
+use lib.ListN.{length, length-append, take, get_or, set, length-set, replicate}
 use lib.Seq.{get_or-set_same, get_or-set_other}
 use borrow.Author.Tests.{eq-eqb, ne_eqb, eqb-false}
 use Rattle.numbers.proofs.TestLaws.{and_left, and_right, and_both}
@@ -18,12 +18,16 @@ use Rattle.drawer.proofs.TimesLaws.{times_append, times_here, times_more, times_
 use Rattle.drawer.proofs.Links.{Links}
 use Rattle.drawer.specs.Chains.{flat}
 use Rattle.drawer.specs.Drawer.{chain_of, is_spread, no_id_twice, under_head, are_states, is_chain, are_chains, is_filled}
-use Rattle.drawer.specs.Tours.{tour_from, among_first, is_met, is_single}
+use Rattle.std.specs.Prelude.{Some, None}
+use Rattle.std.specs.List.{list_any}
+use Rattle.drawer.specs.Tours.{tour_from, is_met, is_single}
 use Rattle.drawer.specs.declared.tour.Tour.{Tour}
 use Rattle.drawer.proofs.ChainLaws.{links_walk}
 use Rattle.drawer.proofs.SpreadLaws.{flat_long, Spread, spread_of, spread_long, is_spread_lem, sum_all, sum_le_each}
 use Rattle.drawer.proofs.SurgeryLaws.{below, alone}
-use Rattle.drawer.proofs.TourLaws.{among_some, among_found}
+use Rattle.std.proofs.lemmas.List.{get_or-take, length-take}
+use Rattle.std.proofs.lemmas.List.Folds.{list_any_at}
+use Rattle.drawer.proofs.TourLaws.{any_found}
 use Rattle.drawer.proofs.CheckLaws.{last_of, last_member, links_once, meet_last, made, ascends, Placed, tour_of, tour_found, asc_twice, Below, twice_of, placed_below, placed_chain, chain_placed, free_placed}
 
 pub record Fine (width : ℕ) (w : ℕ → ℕ) (n k : ℕ) (l : List ℕ) : Type 0 where
@@ -75,9 +79,11 @@ some_of width w q (y ∷ l) x g z = pick (ℕ_discrete x y) (λ k. some_of width
     pick (yes e) rest = omega (arith, g.1)
     pick (no e) rest = rest (omega (arith, times_other x y l e))
 
-is_met_lem : (lasts : List ℕ) (k x i : ℕ) → i < k → get_or lasts i 0 ≡ x → 0 < x → is_met lasts k x ≡ true
+is_met_lem : (lasts : List ℕ) (k x i : ℕ) → k ≤ length lasts → i < k → get_or lasts i 0 ≡ x → 0 < x → is_met (take k lasts) x ≡ true
 unfolding is_met
-is_met_lem lasts k x i h e some = rw (ne_eqb x 0 (λ z. omega arith)) (among_some lasts x k i h (eq-eqb (get_or lasts i 0) x e))
+is_met_lem lasts k x i fits h e some =
+    rw (ne_eqb x 0 (λ z. omega arith))
+    (list_any_at (λ y. eqb y x) (take k lasts) i 0 (omega (arith, length-take k lasts)) (eq-eqb (get_or (take k lasts) i 0) x (get_or-take k lasts i 0 h ∙ e)))
 
 module _ (width : ℕ) (w : ℕ → ℕ) (n : ℕ) (some : 0 < n) where
   filled_spread : is_filled width w n ≡ true → Spread width w n (chain_of width w n)
@@ -179,31 +185,37 @@ module _ (width : ℕ) (w : ℕ → ℕ) (n : ℕ) (some : 0 < n) where
       × (t ≡ made (length (walk width w n k)) (last_of 0 (walk width w n k)) (ascends width w 0 0 (walk width w n k)))
 
   tour_is : (k : ℕ) (l : List ℕ) → Links width w k l → Placed width w n k l → length l ≤ n
-      → tour_from width w n k n (w k) 0 0 0 true ≡ made (length l) (last_of 0 l) (ascends width w 0 0 l)
+      → tour_from width w n k n (w k) 0 0 0 true ≡ Some (made (length l) (last_of 0 l) (ascends width w 0 0 l))
   tour_is k l h placed short =
-      tour_of width w n k n k l 0 0 0 true h placed short ∙ ap (λ (i : ℕ). made i (last_of 0 l) (ascends width w 0 0 l)) (zero-add (length l))
+      tour_of width w n k n k l 0 0 0 true h placed short ∙ ap (λ (i : ℕ). Some (made i (last_of 0 l) (ascends width w 0 0 l))) (zero-add (length l))
 
-  pub toured : (k : ℕ) (t : Tour) → t ≡ tour_from width w n k n (w k) 0 0 0 true → t.ok ≡ true → Toured k t
-  toured k t e ok =
-      let f = tour_found width w n k n k 0 0 0 true (ap (λ (x : Tour). x.ok) (sym e) ∙ ok) in
+  pub toured : (k : ℕ) (t : Tour) → Some t ≡ tour_from width w n k n (w k) 0 0 0 true → Toured k t
+  toured k t e =
+      let f = tour_found width w n k n k 0 0 0 true t (sym e) in
       subst (λ (l : List ℕ). Links width w k l × Placed width w n k l × (length l ≤ n) × (t ≡ made (length l) (last_of 0 l) (ascends width w 0 0 l)))
       (sym (links_walk width w n k f.0 f.1 f.3))
-      (f.1, f.2, f.3, e ∙ tour_is k f.0 f.1 f.2 f.3)
+      (f.1, f.2, f.3, same t _ (e ∙ tour_is k f.0 f.1 f.2 f.3))
+    where
+      same : (a b : Tour) → Some a ≡ Some b → a ≡ b
+      same a b z = cc
 
-  pub refused_tour : (k : ℕ) (t : Tour) → k < 17 → t ≡ tour_from width w n k n (w k) 0 0 0 true → t.ok ≡ false → is_filled width w n ≡ false
-  refused_tour k t h e off =
+  pub refused_tour : (k : ℕ) → k < 17 → None ≡ tour_from width w n k n (w k) 0 0 0 true → is_filled width w n ≡ false
+  refused_tour k h e =
       false_of (is_filled width w n) (λ f. let g = filled_fine k f h in
-      clash t.ok (ap (λ (x : Tour). x.ok) (e ∙ tour_is k (walk width w n k) g.links g.placed g.short)) off)
+      let z : None ≡ Some (made (length (walk width w n k)) (last_of 0 (walk width w n k)) (ascends width w 0 0 (walk width w n k))) = e ∙ tour_is k (walk width w n k) g.links g.placed g.short in cc)
 
-  met_found : (lasts : List ℕ) (k x : ℕ) → is_met lasts k x ≡ true → (0 < x) × ((j : ℕ) × (j < k) × (get_or lasts j 0 ≡ x))
+  met_found : (lasts : List ℕ) (k x : ℕ) → is_met (take k lasts) x ≡ true → (0 < x) × ((j : ℕ) × (j < k) × (get_or lasts j 0 ≡ x))
   unfolding is_met
   met_found lasts k x e = go (eqb x 0) refl e
     where
-      go : (b : Bool) → eqb x 0 ≡ b → cond b false (among_first lasts x k) ≡ true → (0 < x) × ((j : ℕ) × (j < k) × (get_or lasts j 0 ≡ x))
+      go : (b : Bool) → eqb x 0 ≡ b → not b && list_any (λ y. eqb y x) (take k lasts) ≡ true → (0 < x) × ((j : ℕ) × (j < k) × (get_or lasts j 0 ≡ x))
       go true f g = absurd (clash false g refl)
-      go false f g = (omega (arith, eqb-false x 0 f), among_found lasts x k g)
+      go false f g =
+          let s = any_found (take k lasts) x g in
+          let low : s.0 < k = omega (arith, s.1, length-take k lasts) in
+          (omega (arith, eqb-false x 0 f), (s.0, low, sym (get_or-take k lasts s.0 0 low) ∙ s.2))
 
-  pub refused_met : (k : ℕ) (lasts : List ℕ) (total : ℕ) (t : Tour) → k < 17 → Passed width w n k lasts total → Toured k t → is_met lasts k t.last ≡ true → is_filled width w n ≡ false
+  pub refused_met : (k : ℕ) (lasts : List ℕ) (total : ℕ) (t : Tour) → k < 17 → Passed width w n k lasts total → Toured k t → is_met (take k lasts) t.last ≡ true → is_filled width w n ≡ false
   refused_met k lasts total t h p q e =
       false_of (is_filled width w n) (λ f.
       let m = met_found lasts k t.last e in
@@ -214,10 +226,10 @@ module _ (width : ℕ) (w : ℕ → ℕ) (n : ℕ) (some : 0 < n) where
       (subst (λ (i : ℕ). 0 < times i (walk width w n j)) (y ∙ x) (last_member (walk width w n j) (omega (arith, m.0, y))))
       (last_member (walk width w n k) (omega (arith, m.0, x))))
 
-  single_is : (k : ℕ) (up : Bool) → Links width w k (walk width w n k) → Placed width w n k (walk width w n k) → length (walk width w n k) ≤ n → is_single width w n k up ≡ cond (eqb k 16 || up) true (no_id_twice width w (walk width w n k))
+  single_is : (k : ℕ) (up : Bool) → Links width w k (walk width w n k) → Placed width w n k (walk width w n k) → length (walk width w n k) ≤ n → is_single width w n k up ≡ (eqb k 16 || up) || no_id_twice width w (walk width w n k)
   unfolding is_single
   single_is k up h placed short =
-      ap (λ (b : Bool). cond (eqb k 16 || up) true b)
+      ap (λ (b : Bool). (eqb k 16 || up) || b)
       (ap not (twice_of width w n n k (walk width w n k) h (placed_below width w n k (walk width w n k) placed) short) ∙ not_not (no_id_twice width w (walk width w n k)))
     where
       not_not : (b : Bool) → not (not b) ≡ b
@@ -228,11 +240,11 @@ module _ (width : ℕ) (w : ℕ → ℕ) (n : ℕ) (some : 0 < n) where
   refused_single k t h q e =
       false_of (is_filled width w n) (λ f. clash (is_single width w n k t.up) (single_is k t.up q.0 q.1 q.2 ∙ go (ℕ_discrete k 16) f) e)
     where
-      always : (b : Bool) → cond b true true ≡ true
+      always : (b : Bool) → b || true ≡ true
       always true = refl
       always false = refl
 
-      go : Dec (k ≡ 16) → is_filled width w n ≡ true → cond (eqb k 16 || t.up) true (no_id_twice width w (walk width w n k)) ≡ true
+      go : Dec (k ≡ 16) → is_filled width w n ≡ true → (eqb k 16 || t.up) || no_id_twice width w (walk width w n k) ≡ true
       go (yes z) f = rw (eq-eqb k 16 z)
       go (no z) f = rw ((filled_fine k f h).single (omega arith)) (always (eqb k 16 || t.up))
 
@@ -246,7 +258,7 @@ module _ (width : ℕ) (w : ℕ → ℕ) (n : ℕ) (some : 0 < n) where
     long = refl;
   }
 
-  pub passed_next : (k : ℕ) (lasts : List ℕ) (total : ℕ) (t : Tour) → k < 17 → Passed width w n k lasts total → Toured k t → is_met lasts k t.last ≡ false
+  pub passed_next : (k : ℕ) (lasts : List ℕ) (total : ℕ) (t : Tour) → k < 17 → Passed width w n k lasts total → Toured k t → is_met (take k lasts) t.last ≡ false
       → is_single width w n k t.up ≡ true → Passed width w n (k + 1) (set lasts k t.last) (total + t.count)
   unfolding flat
   passed_next k lasts total t h p q off one = record {
@@ -280,7 +292,7 @@ module _ (width : ℕ) (w : ℕ → ℕ) (n : ℕ) (some : 0 < n) where
       ends j x (no e) = get_or-set_other lasts k j t.last 0 e ∙ p.ends j (omega arith)
 
       met : (i : ℕ) → i < k → last_of 0 (walk width w n i) ≡ last_of 0 (walk width w n k) → 0 < last_of 0 (walk width w n k) → ⊥
-      met i x e some = clash (is_met lasts k t.last) (is_met_lem lasts k t.last i x (p.ends i x ∙ e ∙ sym last) (omega (arith, last))) off
+      met i x e some = clash (is_met (take k lasts) t.last) (is_met_lem lasts k t.last i (omega (arith, p.long)) x (p.ends i x ∙ e ∙ sym last) (omega (arith, last))) off
 
       apart : (i j : ℕ) → i < j → j < k + 1 → Dec (j ≡ k) → last_of 0 (walk width w n i) ≡ last_of 0 (walk width w n j) → 0 < last_of 0 (walk width w n j) → ⊥
       apart i j x y (yes z) e some =

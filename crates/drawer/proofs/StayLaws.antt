@@ -73,17 +73,12 @@ forget_keeps s x z = go (is_drawer width s) refl (ℕ_discrete (record_of width 
         (changed (changed (chain_of width (word_at s) (records width s)) (x % 16) (sp.front ++ b.0)) 16 (record_of width s x ∷ chain_of width (word_at s) (records width s) 16))
         (gone_view s (chain_of width (word_at s) (records width s)) v (x % 16) (record_of width s x) sp.front b.0 (head_low x) (sp.cut ∙ ap (λ (l : List ℕ). sp.front ++ l) b.1)))
 
--- ---- as the contracts say it
-pub with_put : (s d : List ℕ) (r x : ℕ) (ws : List ℕ) → x < 18446744073709551616 → length ws ≡ 39 → ((i : ℕ) → get_or ws i 0 < 4294967296)
-    → is_damaged (λ i. get_or ws i 0) 0 ≡ false → record { refusal = r; drawer = d } ≡ put_on s x ws
-    → (record { refusal = r; drawer = d } ≡ put_on s x ws) × (r ≡ 0 → is_drawer width d ≡ true)
-with_put s d r x ws fits long small sound e = (
-  e,
-  λ z. subst (λ (l : List ℕ). is_drawer width l ≡ true) (ap (λ (l : Left). l.drawer) (sym e))
-      (put_keeps s x ws fits long small sound (ap (λ (l : Left). l.refusal) (sym e) ∙ z)),
-)
+-- ---- what a call that is not refused leaves
+pub with_put : (s d : List ℕ) (x : ℕ) (ws : List ℕ) → x < 18446744073709551616 → length ws ≡ 39 → ((i : ℕ) → get_or ws i 0 < 4294967296)
+    → is_damaged (λ i. get_or ws i 0) 0 ≡ false → record { refusal = 0; drawer = d } ≡ put_on s x ws → is_drawer width d ≡ true
+with_put s d x ws fits long small sound e =
+    subst (λ (l : List ℕ). is_drawer width l ≡ true) (ap (λ (l : Left). l.drawer) (sym e))
+    (put_keeps s x ws fits long small sound (ap (λ (l : Left). l.refusal) (sym e)))
 
-pub with_forgotten : (s d : List ℕ) (r x : ℕ) → record { refusal = r; drawer = d } ≡ forget_on s x
-    → (record { refusal = r; drawer = d } ≡ forget_on s x) × (r ≡ 0 → is_drawer width d ≡ true)
-with_forgotten s d r x e =
-    (e, λ z. subst (λ (l : List ℕ). is_drawer width l ≡ true) (ap (λ (l : Left). l.drawer) (sym e)) (forget_keeps s x (ap (λ (l : Left). l.refusal) (sym e) ∙ z)))
+pub with_forgotten : (s d : List ℕ) (x : ℕ) → record { refusal = 0; drawer = d } ≡ forget_on s x → is_drawer width d ≡ true
+with_forgotten s d x e = subst (λ (l : List ℕ). is_drawer width l ≡ true) (ap (λ (l : Left). l.drawer) (sym e)) (forget_keeps s x (ap (λ (l : Left). l.refusal) (sym e)))

@@ -1,103 +1,82 @@
 // What 13 refuses, found in one walk over every chain, and in pairs where ids do not ascend, with no memory but the last record of each.
-ghost use Rattle.std.specs.Prelude.{◌≡◌, ◌*◌, ◌<◌, ◌≤◌};
+ghost use Rattle.std.specs.Prelude.{◌≡◌, true, false, ◌*◌, ◌≤◌, ◌<◌, length, take, IfOk, IfErr, IfSome, IfNone};
 ghost use Rattle.words.specs.Words.{word_at};
-ghost use Rattle.drawer.specs.Drawer.{records_of, is_whole, is_filled, is_drawer};
-ghost use Rattle.drawer.specs.Tours.{Sized, is_met, is_single};
+ghost use Rattle.drawer.specs.Drawer.{is_filled, is_drawer};
+ghost use Rattle.drawer.specs.Tours.{is_met, is_single};
+ghost use Rattle.drawer.specs.Calls as Spec;
 
-use crate::tour::{go_along, is_twice};
-use words::word;
+use crate::layout::{FREE, Records};
+use refusals::Refusal;
 
-// Words in a record: its next index, its id and a state's record.
+/// Words in a record: its next index, its id and a state's record.
 pub const WIDTH: u32 = 42;
 
-pub fn is_drawer(s: &[u8], width: u32) -> bool
-    requires { (42 ≤ width) × (width ≤ 64) }
-    ensures { result ≡ is_drawer width s.now }
-{
-    let len = s.len();
-    let whole = is_whole(width, len);
-    if !whole {
-        return false;
+/// A buffer that is a drawer, read. Calls write it by words: between two of their writes it is none.
+#[derive(Clone, Copy)]
+pub struct Drawer<'a> {
+    pub records: Records<'a, WIDTH>,
+    ghost checked: { is_drawer Spec.width records.bytes.now ≡ true },
+}
+
+impl<'a> Drawer<'a> {
+    /// 13: the bytes are no drawer.
+    pub fn of(bytes: &'a [u8]) -> Result<Self, Refusal>
+        ensures drawer { IfOk result (λ drawer. (drawer.records.bytes.now ≡ bytes.now) × (is_drawer Spec.width bytes.now ≡ true)) }
+        ensures refused { IfErr result (λ refusal. (refusal ≡ Refusal.NoDrawer) × (is_drawer Spec.width bytes.now ≡ false)) }
+    {
+        let records = Records::of_drawer(bytes).ok_or(Refusal::NoDrawer)?;
+        Ok(Drawer { records })
     }
-    let named = word(s, 17) == 4 * width;
-    if !named {
-        return false;
+}
+
+impl<'a, const WIDTH: u32> Records<'a, WIDTH> {
+    /// The records of a buffer, if it is a drawer.
+    #[tactic(auto, unfolding(crate::specs::Drawer::is_drawer))]
+    fn of_drawer(bytes: &'a [u8]) -> Option<Self>
+        requires { (42 ≤ WIDTH) × (WIDTH ≤ 64) }
+        ensures drawer { IfSome result (λ records. (records.bytes.now ≡ bytes.now) × (is_drawer WIDTH bytes.now ≡ true)) }
+        ensures refused { IfNone result (is_drawer WIDTH bytes.now ≡ false) }
+    {
+        let records = Records::<WIDTH>::of(bytes)?;
+        let named = records.word(17) == 4 * WIDTH;
+        (named && records.is_filled()).then_some(records)
     }
-    is_filled(s, width, records_of(width, len) as u32)
-}
 
-pub fn records_of(width: u32, len: usize) -> usize
-    requires { (42 ≤ width) × (width ≤ 64) }
-    ensures { result ≡ records_of width len }
-{
-    len / (4 * (width as usize))
-}
-
-// A whole number of records, from 1 to 65,536.
-pub fn is_whole(width: u32, len: usize) -> bool
-    requires { (42 ≤ width) × (width ≤ 64) }
-    ensures { result ≡ is_whole width len }
-{
-    let n = records_of(width, len);
-    (4 * ((width as usize) * n) == len) & ((0 < n) & (n <= 65536))
-}
-
-fn is_filled(s: &[u8], width: u32, n: u32) -> bool
-    requires { (0 < n) × Sized width n s.now }
-    ensures { result ≡ is_filled width (word_at s.now) n }
-{
-    let mut lasts: [u32; 17] = [0; 17];
-    let mut total: u32 = 0;
-    let mut k: u32 = 0;
-    while k < 17 {
-        let t = go_along(s, width, n, k);
-        let ok = t.ok;
-        if !ok {
-            return false;
+    fn is_filled(&self) -> bool
+        ensures { result ≡ is_filled WIDTH (word_at self.now.bytes.now) self.now.count }
+    {
+        let mut lasts = [0; 17];
+        let mut total = 0;
+        for chain in 0..17 {
+            let Some(tour) = self.tour(chain) else {
+                return false;
+            };
+            if is_met(&lasts[..chain as usize], tour.last) {
+                return false;
+            }
+            if !self.is_single(chain, tour.up) {
+                return false;
+            }
+            lasts[chain as usize] = tour.last;
+            total += tour.count;
         }
-        let met = is_met(&lasts, k as usize, t.last);
-        if met {
-            return false;
-        }
-        let single = is_single(s, width, n, k, t.up);
-        if !single {
-            return false;
-        }
-        lasts[k as usize] = t.last;
-        total += t.count;
-        k += 1;
+        total + 1 == self.count
     }
-    total + 1 == n
+
+    /// An ascending chain cannot hold an id twice: only one that does not ascend is compared in pairs.
+    #[tactic(auto, unfolding(crate::specs::Tours::is_single))]
+    fn is_single(&self, chain: u32, up: bool) -> bool
+        ensures { result ≡ is_single WIDTH (word_at self.now.bytes.now) self.now.count chain up }
+    {
+        chain == FREE || up || !self.is_twice(chain)
+    }
 }
 
-// Two chains that end and meet share their last record.
-fn is_met(lasts: &[u32; 17], k: usize, x: u32) -> bool
-    requires { k ≤ 17 }
-    ensures { result ≡ is_met lasts.now k x }
+/// Two chains that end and meet share their last record.
+// Stays: 0 for an empty chain, which meets none.
+#[tactic(auto, unfolding(crate::specs::Tours::is_met))]
+fn is_met(lasts: &[u32], last: u32) -> bool
+    ensures { result ≡ is_met lasts.now last }
 {
-    let none = x == 0;
-    if none {
-        return false;
-    }
-    let mut i: usize = 0;
-    while i < k {
-        let same = lasts[i] == x;
-        if same {
-            return true;
-        }
-        i += 1;
-    }
-    false
-}
-
-// An ascending chain cannot hold an id twice: only one that does not ascend is compared in pairs.
-fn is_single(s: &[u8], width: u32, n: u32, k: u32, up: bool) -> bool
-    requires { Sized width n s.now }
-    ensures { result ≡ is_single width (word_at s.now) n k up }
-{
-    let clear = (k == 16) | up;
-    if clear {
-        return true;
-    }
-    !is_twice(s, width, n, k)
+    last != 0 && lasts.contains(&last)
 }

@@ -1,40 +1,36 @@
 // An id taken out.
-ghost use Rattle.std.specs.Prelude.{◌≡◌, true, ◌+◌, ◌*◌, ◌<◌, ◌≤◌, length};
+ghost use Rattle.std.specs.Prelude.{◌≡◌, true, OnOk};
+ghost use Rattle.refusals.specs.Refusal.{number_in};
 ghost use Rattle.drawer.specs.Drawer.{is_drawer};
+ghost use Rattle.drawer.specs.Tours.{LiesIn};
 ghost use Rattle.drawer.specs.Calls.{width, forget_on, gone_from};
 
-use crate::check::{WIDTH, is_drawer};
-use crate::find::link_in;
-use crate::put::{put_free, put_word};
+use crate::check::{Drawer, WIDTH};
+use crate::find::Place;
+use crate::laying::put_free;
+use refusals::Refusal;
 use words::word;
 
-// 13: no drawer. 14: the id is not there.
-pub fn forget(drawer: &mut [u8], id: u64) -> u32
-    ensures answers { record { refusal = result; drawer = drawer.new } ≡ forget_on drawer.old id }
-    ensures kept { result ≡ 0 → is_drawer width drawer.new ≡ true }
+/// 13: no drawer. 14: the id is not there.
+pub fn forget(drawer: &mut [u8], id: u64) -> Result<(), Refusal>
+    ensures answers { record { refusal = number_in result; drawer = drawer.new } ≡ forget_on drawer.old id }
+    ensures kept { OnOk result (is_drawer width drawer.new ≡ true) }
 {
-    let right = is_drawer(drawer, WIDTH);
-    if !right {
-        return 13;
-    }
-    let p = link_in(drawer, false, id);
-    let r = word(drawer, p);
-    let absent = r == 0;
-    if absent {
-        return 14;
-    }
-    free_record(drawer, r, p);
-    0
+    let place = Drawer::of(drawer)?.find(id).ok_or(Refusal::NoEntry)?;
+    free_record(drawer, place);
+    Ok(())
 }
 
-// Record f, which the link at word p names, goes to the head of the free chain.
-fn free_record(drawer: &mut [u8], f: u32, p: u32)
-    requires { (4 * (width * f + width) ≤ length drawer.old) × (4 * p + 4 ≤ length drawer.old) × (f < 65536) }
-    ensures { drawer.new ≡ gone_from drawer.old f p }
+/// The record goes to the head of the free chain.
+#[tactic(auto, unfolding(crate::specs::Calls::gone_from))]
+fn free_record(drawer: &mut [u8], place: Place)
+    requires { LiesIn width place.record place.link drawer.old }
+    ensures { drawer.new ≡ gone_from drawer.old place.record place.link }
 {
-    let after = word(drawer, WIDTH * f);
+    let Place { record, link } = place;
+    let after = word(drawer, WIDTH * record);
     let free = word(drawer, 16);
-    put_word(drawer, p as usize, after);
-    put_free(drawer, f as usize, free);
-    put_word(drawer, 16, f);
+    words::put(drawer, link as usize, &[after]);
+    put_free(drawer, record, free);
+    words::put(drawer, 16, &[record]);
 }

@@ -1,59 +1,62 @@
 // A fresh drawer.
-ghost use Rattle.std.specs.Prelude.{◌≡◌, true, ◌*◌, ◌<◌, ◌≤◌, length};
+ghost use Rattle.std.specs.Prelude.{◌≡◌, true, ◌+◌, ◌*◌, ◌<◌, ◌≤◌, length, OnOk};
 ghost use Rattle.words.specs.Words.{bytes_of, put_at};
+ghost use Rattle.refusals.specs.Refusal.{number_in};
 ghost use Rattle.drawer.specs.Drawer.{is_drawer};
-ghost use Rattle.drawer.specs.Calls.{width, lay_on, first_words, next_free, fresh_to};
+ghost use Rattle.drawer.specs.Calls.{width, lay_on, first_words, free_words, next_free, fresh_to};
 ghost use Rattle.drawer.specs.Lists.{AllDrawerLists, AllAscend};
 
-use crate::check::{WIDTH, is_whole, records_of};
-use crate::put::put_free;
+use crate::check::WIDTH;
+use crate::layout::count_of;
+use refusals::Refusal;
 
-// Lays out a fresh drawer, with every record free. Reads only the buffer's length: 13 for one that is no whole number of records.
-pub fn lay(drawer: &mut [u8]) -> u32
-    ensures answers { record { refusal = result; drawer = drawer.new } ≡ lay_on drawer.old }
-    ensures kept { result ≡ 0 → is_drawer width drawer.new ≡ true }
-    ensures lists { result ≡ 0 → AllDrawerLists drawer.new }
-    ensures order { result ≡ 0 → AllAscend drawer.new }
+/// Lays out a fresh drawer, with every record free. Reads only the buffer's length: 13 for one that is no whole number of records.
+pub fn lay(drawer: &mut [u8]) -> Result<(), Refusal>
+    ensures answers { record { refusal = number_in result; drawer = drawer.new } ≡ lay_on drawer.old }
+    ensures kept { OnOk result (is_drawer width drawer.new ≡ true) }
+    ensures lists { OnOk result (AllDrawerLists drawer.new) }
+    ensures order { OnOk result (AllAscend drawer.new) }
 {
-    let len = drawer.len();
-    let whole = is_whole(WIDTH, len);
-    if whole {
-        fill(drawer, records_of(WIDTH, len));
-        return 0;
-    }
-    13
+    let count = count_of::<WIDTH>(drawer.len()).ok_or(Refusal::NoDrawer)?;
+    fill(drawer, count);
+    Ok(())
 }
 
-fn fill(drawer: &mut [u8], n: usize)
-    requires { (length drawer.old ≡ 4 * (width * n)) × (0 < n) × (n ≤ 65536) }
-    ensures { drawer.new ≡ bytes_of (fresh_to n n) }
+fn fill(drawer: &mut [u8], count: u32)
+    requires { (length drawer.old ≡ 4 * (width * count)) × (0 < count) × (count ≤ 65536) }
+    ensures { drawer.new ≡ bytes_of (fresh_to count count) }
 {
-    put_first(drawer, n);
-    let mut r = 1;
-    while r < n {
-        put_free(drawer, r, next_free(n, r));
-        r += 1;
+    put_first(drawer, count);
+    for r in 1..count {
+        put_free(drawer, r, next_free(count, r));
     }
 }
 
-// Record 0: no head but that of the free chain, and the record's length in bytes.
-fn put_first(drawer: &mut [u8], n: usize)
-    requires { (4 * width ≤ length drawer.old) × (0 < n) × (n ≤ 65536) }
-    ensures { drawer.new ≡ put_at 0 (first_words n) drawer.old }
+/// Record 0: no head but that of the free chain, and the record's length in bytes.
+fn put_first(drawer: &mut [u8], count: u32)
+    requires { (4 * width ≤ length drawer.old) × (0 < count) × (count ≤ 65536) }
+    ensures { drawer.new ≡ put_at 0 (first_words count) drawer.old }
 {
-    let mut words: [u32; 42] = [0; 42];
-    words[16] = next_free(n, 0);
-    words[17] = 4 * WIDTH;
-    words::put(drawer, 0, &words);
+    let mut record = [0; WIDTH as usize];
+    record[16] = next_free(count, 0);
+    record[17] = 4 * WIDTH;
+    words::put(drawer, 0, &record);
 }
 
-fn next_free(n: usize, r: usize) -> u32
-    requires { (r < n) × (n ≤ 65536) }
-    ensures { result ≡ next_free n r }
+/// A free record: its next index, then zeros.
+pub fn put_free(drawer: &mut [u8], r: u32, next: u32)
+    requires { (4 * (width * r + width) ≤ length drawer.old) × (r < 65536) }
+    ensures { drawer.new ≡ put_at (width * r) (free_words next) drawer.old }
 {
-    let more = r + 1 < n;
-    if more {
-        return (r + 1) as u32;
-    }
-    0
+    let mut free = [0; WIDTH as usize];
+    free[0] = next;
+    words::put(drawer, (WIDTH * r) as usize, &free);
+}
+
+// Stays: 0 for no record. It is the word that the buffer holds, and it is only written.
+fn next_free(count: u32, r: u32) -> u32
+    requires { (r < count) × (count ≤ 65536) }
+    ensures { result ≡ next_free count r }
+{
+    if r + 1 < count { r + 1 } else { 0 }
 }

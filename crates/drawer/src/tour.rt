@@ -1,136 +1,51 @@
-// The check's way along a chain. A record has width words.
-ghost use Rattle.std.specs.Prelude.{◌≡◌, true, ◌<◌};
+// The check's way along a chain, each record once.
+ghost use Rattle.std.specs.Prelude.{◌≡◌, true};
 ghost use Rattle.words.specs.Words.{word_at};
-ghost use Rattle.drawer.specs.Drawer.{id_in};
-ghost use Rattle.drawer.specs.Search.{is_record};
-ghost use Rattle.drawer.specs.Tours.{Sized, Stands, is_placed, tour_from, has_from, twice_from};
+ghost use Rattle.drawer.specs.Tours.{suits, tour_from};
 
-use records::is_damaged;
-use words::{word, word_in};
+use crate::layout::{FREE, Record, Records};
 
-// ok: the chain ends, and each of its records may stand there. up: its ids ascend.
+/// A chain that ends, and whose records may all stand there. up: its ids ascend.
 #[derive(Clone, Copy)]
 pub struct Tour {
-    pub ok: bool,
     pub count: u32,
     pub last: u32,
     pub up: bool,
 }
 
-pub fn go_along(s: &[u8], width: u32, n: u32, k: u32) -> Tour
-    requires { Sized width n s.now }
-    ensures { result ≡ tour_from width (word_at s.now) n k n (word_at s.now k) 0 0 0 true }
-{
-    let mut r = word(s, k);
-    let mut count: u32 = 0;
-    let mut last: u32 = 0;
-    let mut prev: u64 = 0;
-    let mut up = true;
-    while count < n {
-        let ended = r == 0;
-        if ended {
-            return Tour {
-                ok: true,
-                count: count,
-                last: last,
-                up: up,
-            };
+impl<const WIDTH: u32> Records<'_, WIDTH> {
+    pub fn tour(&self, chain: u32) -> Option<Tour>
+        ensures { let w = word_at self.now.bytes.now in let n = self.now.count in result ≡ tour_from WIDTH w n chain n (w chain) 0 0 0 true }
+    {
+        let mut next = self.head(chain);
+        // Stays: 0 for no record yet, as in the definition's walk, and for an empty chain, as in its head.
+        let mut last = 0;
+        let mut previous = 0;
+        let mut up = true;
+        for count in 0..self.count {
+            if next == 0 {
+                return Some(Tour { count, last, up });
+            }
+            let record = self.record(next)?;
+            if !record.suits(chain) {
+                return None;
+            }
+            let id = record.id();
+            up = up && (last == 0 || previous < id);
+            previous = id;
+            last = next;
+            next = record.next();
         }
-        let placed = is_placed(s, width, n, k, r);
-        if !placed {
-            return Tour {
-                ok: false,
-                count: count,
-                last: last,
-                up: up,
-            };
-        }
-        let id = id_in(s, width, r);
-        up = up & ((last == 0) | (prev < id));
-        prev = id;
-        last = r;
-        count += 1;
-        r = word_in(s, width * r);
-    }
-    Tour {
-        ok: r == 0,
-        count: count,
-        last: last,
-        up: up,
+        let count = self.count;
+        (next == 0).then_some(Tour { count, last, up })
     }
 }
 
-// Record r may stand in chain k, as far as one record shows it.
-fn is_placed(s: &[u8], width: u32, n: u32, k: u32, r: u32) -> bool
-    requires { Sized width n s.now }
-    ensures { (result ≡ is_placed width (word_at s.now) n k r) × (result ≡ true → r < n) }
-{
-    let inside = r < n;
-    if inside {
-        let free = k == 16;
-        if free {
-            return true;
-        }
-        return (id_in(s, width, r) % 16 == (k as u64)) & !is_damaged(s, width * r + 3);
+impl<const WIDTH: u32> Record<'_, WIDTH> {
+    /// It may stand in the chain, as far as one record shows it.
+    fn suits(&self, chain: u32) -> bool
+        ensures { result ≡ suits WIDTH (word_at self.now.records.bytes.now) chain self.now.index }
+    {
+        chain == FREE || self.id() % 16 == u64::from(chain) && self.is_state()
     }
-    false
-}
-
-pub fn id_in(s: &[u8], width: u32, r: u32) -> u64
-    requires { Stands width r s.now }
-    ensures { result ≡ id_in width (word_at s.now) r }
-{
-    let first = width * r;
-    (word_in(s, first + 1) as u64) + 4294967296 * (word_in(s, first + 2) as u64)
-}
-
-// Whether an id stands twice in chain k: each record is compared with those after it.
-pub fn is_twice(s: &[u8], width: u32, n: u32, k: u32) -> bool
-    requires { Sized width n s.now }
-    ensures { result ≡ twice_from width (word_at s.now) n n (word_at s.now k) }
-{
-    let mut r = word(s, k);
-    let mut left = n;
-    while 0 < left {
-        let on = is_record(n, r);
-        if !on {
-            return false;
-        }
-        left -= 1;
-        let next = word_in(s, width * r);
-        let again = has_from(s, width, n, id_in(s, width, r), left, next);
-        if again {
-            return true;
-        }
-        r = next;
-    }
-    false
-}
-
-// Whether id x stands from record first on, within most records.
-fn has_from(s: &[u8], width: u32, n: u32, x: u64, most: u32, first: u32) -> bool
-    requires { Sized width n s.now }
-    ensures { result ≡ has_from width (word_at s.now) n x most first }
-{
-    let mut r = first;
-    let mut left = most;
-    while 0 < left {
-        let on = is_record(n, r);
-        if !on {
-            return false;
-        }
-        let same = id_in(s, width, r) == x;
-        if same {
-            return true;
-        }
-        left -= 1;
-        r = word_in(s, width * r);
-    }
-    false
-}
-
-pub fn is_record(n: u32, r: u32) -> bool
-    ensures { result ≡ is_record n r }
-{
-    (0 < r) & (r < n)
 }

@@ -1,27 +1,8 @@
 -- "prints a line each ..: refusal or 0; offset x, y and velocity x, y as eight lower-case hexadecimal digits of their bits; stuck
 -- flags x, y as two digits".
 use Rattle.std.specs.Prelude.{ℕ, ◌+◌, ◌/◌, ◌%◌, Bool, false, cond, List, [], ◌∷◌, ◌++◌, ltb, get_or, Float}
-use Rattle.std.specs.Float.{nan, binary32}
-use Rattle.std.specs.Float.Ieee.{to_bits}
-
--- the last hexadecimal digit of w, as ASCII in lower case
-unfoldable pub glyph_of : ℕ → ℕ
-glyph_of w = cond (ltb (w % 16) 10) (48 + w % 16) (87 + w % 16)
-
-abbrev pub digits_of_word : ℕ → List ℕ
-digits_of_word w =
-    glyph_of (w / 268435456)
-    ∷ glyph_of (w / 16777216)
-    ∷ glyph_of (w / 1048576)
-    ∷ glyph_of (w / 65536)
-    ∷ glyph_of (w / 4096)
-    ∷ glyph_of (w / 256)
-    ∷ glyph_of (w / 16)
-    ∷ glyph_of w
-    ∷ []
-
-unfoldable pub digits_of : Float → List ℕ
-digits_of x = digits_of_word (to_bits binary32 x)
+use Rattle.std.specs.Float.{nan}
+use Rattle.listing.specs.Digits.{digits_of}
 
 unfoldable pub flag_of : Bool → ℕ
 flag_of b = cond b 49 48
@@ -49,7 +30,3 @@ rest_of offset vel stuck =
 
 unfoldable pub line_of : ℕ → List Float → List Float → List Bool → List ℕ
 line_of refusal offset vel stuck = decimal_of refusal ++ rest_of offset vel stuck
-
--- with two digits for the refusal, whatever it is
-unfoldable pub wide_line_of : ℕ → List Float → List Float → List Bool → List ℕ
-wide_line_of refusal offset vel stuck = digit_of (refusal / 10) ∷ digit_of refusal ∷ rest_of offset vel stuck

@@ -1,5 +1,8 @@
 -- The state that a frame reaches from one that the code can hold is one that the code can hold, and such a state is read back as it is written.
 -- Assumes nothing.
+use Rattle.std.specs.Prelude.{Option}
+use Rattle.area.specs.declared.state.ScrollingToTarget.{ScrollingToTarget}
+use Rattle.std.specs.Prelude.{Float}
 use mathlib.Core.Path.{◌≡◌}
 use mathlib.Core.Logic.{∥∥₁_elim}
 use mathlib.Core.List.{List, [], ◌∷◌}
@@ -16,8 +19,6 @@ use Rattle.area.specs.PutOut.{next_state}
 use Rattle.area.specs.End.{shrunk_rect_of}
 use Rattle.area.specs.Call.{call_under}
 use Rattle.area.specs.declared.state.State.{State}
-use Rattle.area.specs.declared.state.OffsetTarget.{OffsetTarget}
-use Rattle.area.specs.declared.state.StartOffset.{StartOffset}
 use Rattle.area.specs.contracts.state.State as state
 use Rattle.area.proofs.HeldLaws.{Opens, stored_held}
 use Rattle.records.specs.Record.{record_of, state_of}
@@ -34,7 +35,7 @@ num_held (x ∷ y ∷ []) are (suc zero) = are.1
 num_held (x ∷ y ∷ []) are (suc (suc d)) = nan-fits binary32
 num_held (x ∷ y ∷ z ∷ v) are d = absurd are
 
-target_held : (v : List OffsetTarget) → AreTargets v → (d : ℕ) → IsTarget (slice_index_or v d no_target).target
+target_held : (v : List (Option ScrollingToTarget)) → AreTargets v → (d : ℕ) → IsTarget (slice_index_or v d no_target)
 target_held [] are d = absurd are
 target_held (t ∷ []) are d = absurd are
 target_held (t ∷ u ∷ []) are zero = are.0
@@ -42,7 +43,7 @@ target_held (t ∷ u ∷ []) are (suc zero) = are.1
 target_held (t ∷ u ∷ []) are (suc (suc d)) = tt
 target_held (t ∷ u ∷ v ∷ w) are d = absurd are
 
-press_held : (v : List StartOffset) → ArePresses v → (d : ℕ) → IsPress (slice_index_or v d no_press).press
+press_held : (v : List (Option Float)) → ArePresses v → (d : ℕ) → IsPress (slice_index_or v d no_press)
 press_held [] are d = absurd are
 press_held (p ∷ []) are d = absurd are
 press_held (p ∷ q ∷ []) are zero = are.0

@@ -3,6 +3,7 @@
 -- else is refused here.
 -- Assumes nothing.
 use mathlib.Core.Path.{◌≡◌, refl}
+use Rattle.std.specs.Prelude.{Result}
 use mathlib.Core.List.{List, [], ◌∷◌}
 use Prim.Native.Nat.{ℕ, ◌<◌}
 use lib.ListN.{length}
@@ -20,6 +21,8 @@ use denote.Builtin.{u8}
 use denote.Array.{Array}
 use denote.Triple.Entry.{Args}
 use denote.Triple.Clauses.{AtExit}
+use Rattle.refusals.specs.Refusal.{number_in}
+use Rattle.refusals.specs.declared.Refusal.{Refusal}
 use Rattle.area.specs.Clock.{reset_of}
 use Rattle.records.specs.Record.{state_of}
 use Rattle.host.specs.Lists.{FrameOnSays, SettleOnSays, ResetOnSays}
@@ -33,9 +36,9 @@ use Rattle.host.specs.contracts.settle_calls.strakobud_settle_by as settle_by
 module _ {M : Type 1} {𝓤 : Ura M} (𝓛 : Logic 𝓤) (mem : Memory → SProp 𝓤) (run : Routine → Fun 𝓤) where
   -- `strakobud_frame`, on the references a .0 (the record), a.1.0 (the frame) and a.1.1.0 (out); at exit they are e.0, e.1.0 and
   -- e.1.1.0; it has no table, and no bytes stand for T
-  pub frame_says : (κs : Lfts 3) (a : Args frame.signature κs) (r : ℕ) (e : AtExit frame.ended κs)
+  pub frame_says : (κs : Lfts 3) (a : Args frame.signature κs) (r : Result (Unit {0}) Refusal) (e : AtExit frame.ended κs)
       → (frame.clauses 𝓛 mem run κs a).ensures tt r e
-      ≡ fact 𝓤 (FrameOnSays [] a.0.now a.1.0.now a.1.1.0.now (record { refusal = r; state = e.0.now; out = e.1.1.0.now }))
+      ≡ fact 𝓤 (FrameOnSays [] a.0.now a.1.0.now a.1.1.0.now (record { refusal = number_in r; state = e.0.now; out = e.1.1.0.now }))
   unfolding table_of
   frame_says κs a r e = refl
 
@@ -44,20 +47,20 @@ module _ {M : Type 1} {𝓤 : Ura M} (𝓛 : Logic 𝓤) (mem : Memory → SProp
   frame_asks κs a = refl
 
   -- `strakobud_frame_by`, whose table is a.1.1.0 and out a .1 .1 .1 .0
-  pub frame_by_says : (κs : Lfts 4) (a : Args frame_by.signature κs) (r : ℕ) (e : AtExit frame_by.ended κs)
+  pub frame_by_says : (κs : Lfts 4) (a : Args frame_by.signature κs) (r : Result (Unit {0}) Refusal) (e : AtExit frame_by.ended κs)
       → (frame_by.clauses 𝓛 mem run κs a).ensures tt r e
       ≡ fact 𝓤 (FrameOnSays a.1.1.0.now a.0.now a.1.0.now a.1.1.1.0.now
-      (record { refusal = r; state = e.0.now; out = e.1.1.1.0.now }))
+      (record { refusal = number_in r; state = e.0.now; out = e.1.1.1.0.now }))
   frame_by_says κs a r e = refl
 
   pub frame_by_asks : (κs : Lfts 4) (a : Args frame_by.signature κs) → (frame_by.clauses 𝓛 mem run κs a).requires tt ≡ emp 𝓤
   frame_by_asks κs a = refl
 
   -- `strakobud_settle`, on the references a .0 (the record), a.1.0 (the frame), a.1.1.0 (the run) and a.1.1.1.0 (used); it has no table
-  pub settle_says : (κs : Lfts 4) (a : Args settle.signature κs) (r : ℕ) (e : AtExit settle.ended κs)
+  pub settle_says : (κs : Lfts 4) (a : Args settle.signature κs) (r : Result (Unit {0}) Refusal) (e : AtExit settle.ended κs)
       → (settle.clauses 𝓛 mem run κs a).ensures tt r e
       ≡ fact 𝓤 (SettleOnSays [] a.0.now a.1.0.now a.1.1.0.now a.1.1.1.0.now
-      (record { refusal = r; state = e.0.now; used = e.1.1.1.0.now }))
+      (record { refusal = number_in r; state = e.0.now; used = e.1.1.1.0.now }))
   unfolding table_of
   settle_says κs a r e = refl
 
@@ -65,10 +68,10 @@ module _ {M : Type 1} {𝓤 : Ura M} (𝓛 : Logic 𝓤) (mem : Memory → SProp
   settle_asks κs a = refl
 
   -- `strakobud_settle_by`, whose table is a.1.1.0, run a .1 .1 .1 .0 and used a .1 .1 .1 .1 .0
-  pub settle_by_says : (κs : Lfts 5) (a : Args settle_by.signature κs) (r : ℕ) (e : AtExit settle_by.ended κs)
+  pub settle_by_says : (κs : Lfts 5) (a : Args settle_by.signature κs) (r : Result (Unit {0}) Refusal) (e : AtExit settle_by.ended κs)
       → (settle_by.clauses 𝓛 mem run κs a).ensures tt r e
       ≡ fact 𝓤 (SettleOnSays a.1.1.0.now a.0.now a.1.0.now a.1.1.1.0.now a.1.1.1.1.0.now
-      (record { refusal = r; state = e.0.now; used = e.1.1.1.1.0.now }))
+      (record { refusal = number_in r; state = e.0.now; used = e.1.1.1.1.0.now }))
   settle_by_says κs a r e = refl
 
   pub settle_by_asks : (κs : Lfts 5) (a : Args settle_by.signature κs) → (settle_by.clauses 𝓛 mem run κs a).requires tt ≡ emp 𝓤

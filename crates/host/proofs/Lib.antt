@@ -1,6 +1,5 @@
--- Tables as they are put; the run; what holds of a state that is written and read again between two calls, and of lists of calls.
+-- Tables as they are put; what holds of a state that is written and read again between two calls, and of lists of calls.
 pub mod TableLaws
-pub mod SettlingRunLaws
 pub mod ResetLaws
 pub mod TypedLaws
 pub mod WheelLaws

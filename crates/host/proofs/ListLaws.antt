@@ -21,8 +21,8 @@ use Rattle.area.specs.SettlingRun as area
 use Rattle.area.specs.Listing.{listing_words, listing, ListingShown}
 use Rattle.area.specs.Lists.{fed_by, feed_from, told_from, AllLists}
 use Rattle.area.specs.declared.state.State.{State}
-use Rattle.area.specs.declared.outcome.Answer.{Answer}
-use Rattle.area.specs.declared.settling_run.Settled.{Settled}
+use Rattle.area.specs.Outcome.{Answer}
+use Rattle.area.specs.SettlingRun.{Settled}
 use Rattle.numbers.proofs.TestLaws.{either}
 use Rattle.area.proofs.CallLaws.{step_is_call, refusal_keeps, whole_if_passed, accepted}
 use Rattle.area.proofs.SettlingRunLaws.{whole_of_run}

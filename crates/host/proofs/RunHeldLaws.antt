@@ -13,8 +13,8 @@ use Rattle.area.specs.Frame.{time_words}
 use Rattle.area.specs.Steps.{Fed, step_at}
 use Rattle.area.specs.SettlingRun.{advanced}
 use Rattle.area.specs.declared.state.State.{State}
-use Rattle.area.specs.declared.outcome.Answer.{Answer}
-use Rattle.area.specs.declared.settling_run.Settled.{Settled}
+use Rattle.area.specs.Outcome.{Answer}
+use Rattle.area.specs.SettlingRun.{Settled}
 use Rattle.area.proofs.CallLaws.{step_is_call}
 use Rattle.area.proofs.AdvancedLaws.{advanced_whole}
 use Rattle.area.proofs.RunLaws.{Goes, ends, refused, rests, on}

@@ -15,7 +15,7 @@ use Rattle.words.proofs.KeptLaws.{length_bytes}
 use Rattle.numbers.specs.Table.{Table, table_at, table_of, load_of, IsTable, Served}
 use Rattle.words.proofs.ReadLaws.{read_back}
 use Rattle.numbers.proofs.TableLaws.{t_is_table, as_table, at_most}
-use Rattle.numbers.proofs.LoadLaws.{so_loads}
+use Rattle.numbers.proofs.LoadLaws.{loads}
 use Rattle.host.specs.Calls.{frame_under, step_under}
 use Rattle.host.specs.SettlingRun.{settle_under}
 use Rattle.host.specs.Table.{entry_words, table_bytes, ServesAsT}
@@ -81,10 +81,10 @@ bytes_are_table : IsTable (long_at table_bytes)
 bytes_are_table = as_table table_at (long_at table_bytes) entry_read t_is_table
 
 t_loads : load_of table_bytes ≡ 0
-t_loads = (so_loads table_bytes (load_of table_bytes) refl).1.1 bytes_long bytes_are_table
+t_loads = (loads table_bytes (load_of table_bytes) refl).1 bytes_long bytes_are_table
 
 t_is_served : Served table_bytes
-t_is_served = (so_loads table_bytes (load_of table_bytes) refl).1.0 t_loads
+t_is_served = (loads table_bytes (load_of table_bytes) refl).0 t_loads
 
 past_the_last : (k : ℕ) → ltb k 1025 ≡ false → table_of table_bytes k ≡ table_at k
 unfolding table_of

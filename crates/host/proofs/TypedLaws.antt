@@ -1,6 +1,10 @@
 -- A value of the type `State` is one that the code can hold: each pair is two, and each number is one that its format holds. What a
 -- type owns says so, and nothing of how the value came about is opened.
 -- Assumes nothing.
+use Rattle.std.specs.Prelude.{Option, Some, None}
+use Rattle.numbers.specs.declared.shape.Rect.{Rect}
+use Rattle.area.specs.declared.state.ScrollingToTarget.{ScrollingToTarget}
+use Rattle.std.specs.Prelude.{Float}
 use mathlib.Core.Path.{◌≡◌, refl}
 use mathlib.Core.Bool.{Bool}
 use mathlib.Core.List.{List, [], ◌∷◌}
@@ -16,20 +20,13 @@ use denote.Floats.{FloatOf, passes, is_true}
 use denote.Plain.{Boolean}
 use denote.Array.{in_array, each, array_val}
 use Rattle.area.specs.declared.state.State.{State}
-use Rattle.area.specs.declared.state.MaybeTarget.{MaybeTarget}
-use Rattle.area.specs.declared.state.OffsetTarget.{OffsetTarget}
-use Rattle.area.specs.declared.state.MaybePress.{MaybePress}
-use Rattle.area.specs.declared.state.StartOffset.{StartOffset}
-use Rattle.area.specs.declared.state.MaybeRect.{MaybeRect}
-use Rattle.axis.specs.declared.call.WheelAnswer.{WheelAnswer}
+use Rattle.axis.specs.declared.wheel.Wheeled.{Wheeled}
+use Rattle.std.specs.contracts.option.Option as option
 use Rattle.numbers.specs.contracts.shape.Pos2 as pos2
-use Rattle.axis.specs.contracts.call.WheelAnswer as wheel_answer
+use Rattle.numbers.specs.contracts.shape.Rect as shape_rect
+use Rattle.axis.specs.contracts.wheel.Wheeled as wheeled
+use Rattle.area.specs.contracts.state.ScrollingToTarget as scrolling
 use Rattle.area.specs.contracts.state.State as state
-use Rattle.area.specs.contracts.state.MaybeTarget as maybe_target
-use Rattle.area.specs.contracts.state.OffsetTarget as offset_target
-use Rattle.area.specs.contracts.state.MaybePress as maybe_press
-use Rattle.area.specs.contracts.state.StartOffset as start_offset
-use Rattle.area.specs.contracts.state.MaybeRect as maybe_rect
 use Rattle.records.specs.Held.{Is32, ArePair, AreFlags, IsTarget, AreTargets, IsPress, ArePresses, IsRect, IsHeld}
 
 -- ---- an array of two, whose elements go into the type's own by `into`
@@ -56,31 +53,31 @@ flags : (v : List Bool) (vs : List Val) → shadow (in_array Bool Boolean.own_va
 flags = two Boolean.own_val AreFlags (λ x y u w p q. tt)
 
 -- ---- options: of the live variant, its fields
-target : (t : MaybeTarget) (vs : List Val) → Is maybe_target.the_row t vs → IsTarget t
-target MaybeTarget.Nothing vs p = tt
-target (MaybeTarget.Toward t) vs p =
+target : (t : Option ScrollingToTarget) (vs : List Val) → Is (option.the_row scrolling.the_row) t vs → IsTarget t
+target None vs p = tt
+target (Some t) vs p =
     let is = p.1.1.1.1.0.1.1 in
     (number binary64 t.start _ is.0, number binary64 t.end _ is.1.0, number binary32 t.target_offset _ is.1.1.0)
 
-targets : (v : List OffsetTarget) (vs : List Val)
-    → shadow (in_array _ (offset_target.the_row).own_val 2 v vs) → AreTargets v
+targets : (v : List (Option ScrollingToTarget)) (vs : List Val)
+    → shadow (in_array _ (option.the_row scrolling.the_row).own_val 2 v vs) → AreTargets v
 targets =
-    two (offset_target.the_row).own_val AreTargets
-    (λ t u vs ws p q. (target t.target _ p.1.1.0, target u.target _ q.1.1.0))
+    two (option.the_row scrolling.the_row).own_val AreTargets
+    (λ t u vs ws p q. (target t _ p, target u _ q))
 
-press : (m : MaybePress) (vs : List Val) → Is maybe_press.the_row m vs → IsPress m
-press MaybePress.Nothing vs p = tt
-press (MaybePress.At x) vs p = number binary32 x _ p.1.1.1.1.0
+press : (m : Option Float) (vs : List Val) → Is (option.the_row (FloatOf binary32)) m vs → IsPress m
+press None vs p = tt
+press (Some x) vs p = number binary32 x _ p.1.1.1.1.0
 
-presses : (v : List StartOffset) (vs : List Val)
-    → shadow (in_array _ (start_offset.the_row).own_val 2 v vs) → ArePresses v
+presses : (v : List (Option Float)) (vs : List Val)
+    → shadow (in_array _ (option.the_row (FloatOf binary32)).own_val 2 v vs) → ArePresses v
 presses =
-    two (start_offset.the_row).own_val ArePresses
-    (λ t u vs ws p q. (press t.press _ p.1.1.0, press u.press _ q.1.1.0))
+    two (option.the_row (FloatOf binary32)).own_val ArePresses
+    (λ t u vs ws p q. (press t _ p, press u _ q))
 
-rect : (m : MaybeRect) (vs : List Val) → Is maybe_rect.the_row m vs → IsRect m
-rect MaybeRect.Nothing vs p = tt
-rect (MaybeRect.Some r) vs p =
+rect : (m : Option Rect) (vs : List Val) → Is (option.the_row shape_rect.the_row) m vs → IsRect m
+rect None vs p = tt
+rect (Some r) vs p =
     let is = p.1.1.1.1.0.1.1 in
     let min = is.0.1.1 in
     let max = is.1.0.1.1 in (
@@ -109,11 +106,11 @@ typed_is_held s vs p =
       remembered_time = number binary64 s.remembered_time _ is.1.1.1.1.1.1.1.1.1.1.1.0;
     }
 
--- ---- the answer of a wheel call
-pub answer_is_held : (a : WheelAnswer) (vs : List Val) → Is wheel_answer.the_row a vs → Is32 a.wheeled.offset × Is32 a.wheeled.vel
-answer_is_held a vs p =
-    let is = p.1.1.1.0.1.1 in
-    (number binary32 a.wheeled.offset _ is.0, number binary32 a.wheeled.vel _ is.1.0)
+-- ---- what a wheel call answers
+pub wheeled_is_held : (w : Wheeled) (vs : List Val) → Is wheeled.the_row w vs → Is32 w.offset × Is32 w.vel
+wheeled_is_held w vs p =
+    let is = p.1.1 in
+    (number binary32 w.offset _ is.0, number binary32 w.vel _ is.1.0)
 
 -- ---- and back: a state that the code can hold has a machine value
 array_of : {X : Type 0} (own : X → List Val → Fml) (x y : X) (u w : Val) → shadow (own x (u ∷ [])) → shadow (own y (w ∷ []))
@@ -136,9 +133,9 @@ flags_typed (x ∷ []) held = absurd held
 flags_typed (x ∷ y ∷ []) held = array_of Boolean.own_val x y (vbool x) (vbool y) refl refl
 flags_typed (x ∷ y ∷ z ∷ v) held = absurd held
 
-target_typed : (t : MaybeTarget) → IsTarget t → (u : Val) × Is maybe_target.the_row t (u ∷ [])
-target_typed MaybeTarget.Nothing held = (_, ([], (refl, (tt, (refl, tt)))))
-target_typed (MaybeTarget.Toward t) held = (
+target_typed : (t : Option ScrollingToTarget) → IsTarget t → (u : Val) × Is (option.the_row scrolling.the_row) t (u ∷ [])
+target_typed None held = (_, ([], (refl, (tt, (refl, tt)))))
+target_typed (Some t) held = (
   _,
   (
     _,
@@ -167,33 +164,29 @@ target_typed (MaybeTarget.Toward t) held = (
   ),
 )
 
-targets_typed : (v : List OffsetTarget) → AreTargets v
-    → (u : Val) × shadow (in_array _ (offset_target.the_row).own_val 2 v (u ∷ []))
+targets_typed : (v : List (Option ScrollingToTarget)) → AreTargets v
+    → (u : Val) × shadow (in_array _ (option.the_row scrolling.the_row).own_val 2 v (u ∷ []))
 targets_typed [] held = absurd held
 targets_typed (t ∷ []) held = absurd held
 targets_typed (t ∷ u ∷ []) held =
-    array_of (offset_target.the_row).own_val t u _ _
-    ((_, tt), (refl, ((target_typed t.target held.0).1, tt)))
-    ((_, tt), (refl, ((target_typed u.target held.1).1, tt)))
+    array_of (option.the_row scrolling.the_row).own_val t u _ _ (target_typed t held.0).1 (target_typed u held.1).1
 targets_typed (t ∷ u ∷ w ∷ v) held = absurd held
 
-press_typed : (m : MaybePress) → IsPress m → (u : Val) × Is maybe_press.the_row m (u ∷ [])
-press_typed MaybePress.Nothing held = (_, ([], (refl, (tt, (refl, tt)))))
-press_typed (MaybePress.At x) held = (_, (_, (refl, ((_, tt), (refl, (number_typed binary32 x held, tt))))))
+press_typed : (m : Option Float) → IsPress m → (u : Val) × Is (option.the_row (FloatOf binary32)) m (u ∷ [])
+press_typed None held = (_, ([], (refl, (tt, (refl, tt)))))
+press_typed (Some x) held = (_, (_, (refl, ((_, tt), (refl, (number_typed binary32 x held, tt))))))
 
-presses_typed : (v : List StartOffset) → ArePresses v
-    → (u : Val) × shadow (in_array _ (start_offset.the_row).own_val 2 v (u ∷ []))
+presses_typed : (v : List (Option Float)) → ArePresses v
+    → (u : Val) × shadow (in_array _ (option.the_row (FloatOf binary32)).own_val 2 v (u ∷ []))
 presses_typed [] held = absurd held
 presses_typed (t ∷ []) held = absurd held
 presses_typed (t ∷ u ∷ []) held =
-    array_of (start_offset.the_row).own_val t u _ _
-    ((_, tt), (refl, ((press_typed t.press held.0).1, tt)))
-    ((_, tt), (refl, ((press_typed u.press held.1).1, tt)))
+    array_of (option.the_row (FloatOf binary32)).own_val t u _ _ (press_typed t held.0).1 (press_typed u held.1).1
 presses_typed (t ∷ u ∷ w ∷ v) held = absurd held
 
-rect_typed : (m : MaybeRect) → IsRect m → (u : Val) × Is maybe_rect.the_row m (u ∷ [])
-rect_typed MaybeRect.Nothing held = (_, ([], (refl, (tt, (refl, tt)))))
-rect_typed (MaybeRect.Some r) held =
+rect_typed : (m : Option Rect) → IsRect m → (u : Val) × Is (option.the_row shape_rect.the_row) m (u ∷ [])
+rect_typed None held = (_, ([], (refl, (tt, (refl, tt)))))
+rect_typed (Some r) held =
     let min : Is pos2.the_row r.min _ = ((_, (_, tt)), (refl, (number_typed binary32 r.min.x held.0, (number_typed binary32 r.min.y held.1, tt)))) in
     let max : Is pos2.the_row r.max _ = ((_, (_, tt)), (refl, (number_typed binary32 r.max.x held.2, (number_typed binary32 r.max.y held.3, tt)))) in
     (_, (_, (refl, ((_, tt), (refl, (((_, (_, tt)), (refl, (min, (max, tt)))), tt))))))

@@ -1,5 +1,5 @@
 -- The calls of the library: what each answers, and what each leaves in the bytes that it is lent.
-use Rattle.std.specs.Prelude.{ℕ, ◌≡◌, Bool, cond, ◌||◌, List, [], ◌∷◌, eqb, ltb}
+use Rattle.std.specs.Prelude.{ℕ, ◌≡◌, Bool, cond, ◌||◌, List, [], ◌∷◌, eqb, ltb, Result, Ok, Err, Float}
 use Rattle.words.specs.Words.{word_at, bytes_of, put_at}
 use Rattle.numbers.specs.Table.{Table, table_at}
 use Rattle.axis.specs.Call.{drag_call_of, step_call_under, wheel_call_of}
@@ -7,14 +7,14 @@ use Rattle.axis.specs.WheelLaw.{OverscrollIsOutside, WheelHolds}
 use Rattle.axis.specs.declared.physics.AxisPhysics.{AxisPhysics}
 use Rattle.axis.specs.declared.wheel.WheelScroll.{WheelScroll}
 use Rattle.axis.specs.declared.wheel.Wheeled.{Wheeled}
-use Rattle.axis.specs.declared.call.DragAnswer.{DragAnswer}
-use Rattle.axis.specs.declared.call.StepAnswer.{StepAnswer}
-use Rattle.axis.specs.declared.call.WheelAnswer.{WheelAnswer}
+use Rattle.axis.specs.declared.step.Stepped.{Stepped}
+use Rattle.refusals.specs.Refusal.{Answered, number_of}
+use Rattle.refusals.specs.declared.Refusal.{Refusal}
 use Rattle.area.specs.State.{no_time, default, clamped_offset}
 use Rattle.area.specs.Frame.{word_no, number_no, flag_no, time_words, source_no}
 use Rattle.area.specs.Checks.{frame_refusal}
 use Rattle.area.specs.Call.{call_under}
-use Rattle.area.specs.declared.outcome.Answer.{Answer}
+use Rattle.area.specs.Outcome.{Answer}
 use Rattle.records.specs.Record.{number_word, number_words, flag_word, record_of, out_words, state_of, is_damaged, is_no_flag}
 
 -- strakobud_fresh
@@ -65,6 +65,11 @@ offset_on state out =
     (record { refusal = 6; out = out })
     (record { refusal = 0; out = bytes_of (number_words (clamped_offset (state_of state))) })
 
+-- what the code of an axis call answers, the words or its refusal: in out are those words or what was given
+abbrev pub words_left : List ℕ → Result (List ℕ) Refusal → Left
+words_left given (Ok words) = record { refusal = 0; out = bytes_of words }
+words_left given (Err refusal) = record { refusal = number_of refusal; out = bytes_of given }
+
 -- "the axis words bounds min, bounds max, extent, decay_time, stop_distance, rubber_band"
 unfoldable pub axis_of : List ℕ → AxisPhysics
 axis_of call = record {
@@ -75,10 +80,10 @@ axis_of call = record {
 
 -- strakobud_drag: "then for drag offset, delta"; "A flag or kind of an axis call outside its values: 2, ahead of 3"; "On a refusal out
 -- holds what was given, with answer 0"
-abbrev pub drag_left : DragAnswer → List ℕ → Left
+abbrev pub drag_left : Answered Float → List ℕ → Left
 drag_left a call =
     cond (eqb a.refusal 0)
-    (record { refusal = 0; out = bytes_of (number_word a.offset ∷ []) })
+    (record { refusal = 0; out = bytes_of (number_word a.value ∷ []) })
     (record { refusal = a.refusal; out = bytes_of (word_no call 7 ∷ []) })
 
 unfoldable pub drag_on : List ℕ → Left
@@ -91,10 +96,10 @@ drag_on call =
 abbrev pub step_given : List ℕ → ℕ → Left
 step_given call refusal = record { refusal = refusal; out = bytes_of (word_no call 7 ∷ word_no call 8 ∷ 0 ∷ []) }
 
-abbrev pub step_left : StepAnswer → List ℕ → Left
+abbrev pub step_left : Answered Stepped → List ℕ → Left
 step_left a call =
     cond (eqb a.refusal 0)
-    (record { refusal = 0; out = bytes_of (number_word a.stepped.offset ∷ number_word a.stepped.vel ∷ flag_word a.stepped.moving ∷ []) })
+    (record { refusal = 0; out = bytes_of (number_word a.value.offset ∷ number_word a.value.vel ∷ flag_word a.value.moving ∷ []) })
     (step_given call a.refusal)
 
 -- under a table
@@ -114,17 +119,17 @@ scroll_of call = record { delta = number_no call 9; source = source_no call 10; 
 abbrev pub wheel_given : List ℕ → ℕ → Left
 wheel_given call refusal = record { refusal = refusal; out = bytes_of (word_no call 7 ∷ word_no call 8 ∷ word_no call 13 ∷ 0 ∷ []) }
 
-abbrev pub wheel_left : WheelAnswer → List ℕ → Left
+abbrev pub wheel_left : Answered Wheeled → List ℕ → Left
 wheel_left a call =
     cond (eqb a.refusal 0)
     (record {
       refusal = 0;
       out =
           bytes_of
-          (number_word a.wheeled.offset
-          ∷ number_word a.wheeled.vel
-          ∷ flag_word a.wheeled.bounced_this_momentum
-          ∷ flag_word a.wheeled.consumed
+          (number_word a.value.offset
+          ∷ number_word a.value.vel
+          ∷ flag_word a.value.bounced_this_momentum
+          ∷ flag_word a.value.consumed
           ∷ []);
     })
     (wheel_given call a.refusal)

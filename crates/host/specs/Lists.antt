@@ -7,8 +7,8 @@ use Rattle.area.specs.Listing.{listing, ListingShown}
 use Rattle.area.specs.Lists.{Call, by_value, Told, feed_from, told_from, DistancesAlong, ClockAlong}
 use Rattle.area.specs.Lists as area
 use Rattle.area.specs.declared.state.State.{State}
-use Rattle.area.specs.declared.outcome.Answer.{Answer}
-use Rattle.area.specs.declared.settling_run.Settled.{Settled}
+use Rattle.area.specs.Outcome.{Answer}
+use Rattle.area.specs.SettlingRun.{Settled}
 use Rattle.records.specs.Record.{record_of, state_of}
 use Rattle.host.specs.Calls.{FrameLeft, left_by, frame_under, reset_on}
 use Rattle.host.specs.SettlingRun.{RunLeft, increment_of, limit_of, ran_by, settle_under}

@@ -5,7 +5,7 @@ use Rattle.numbers.specs.Table.{Table, table_at}
 use Rattle.area.specs.Frame.{word_no, time_no}
 use Rattle.area.specs.SettlingRun.{settle_refusal, settle_from}
 use Rattle.area.specs.declared.state.State.{State}
-use Rattle.area.specs.declared.settling_run.Settled.{Settled}
+use Rattle.area.specs.SettlingRun.{Settled}
 use Rattle.records.specs.Record.{record_of, state_of, is_damaged}
 use Rattle.host.specs.Calls.{damaged_refusal}
 

@@ -1,5 +1,6 @@
 // The calls on a state.
 ghost use Rattle.std.specs.Prelude.{◌≡◌};
+ghost use Rattle.refusals.specs.Refusal.{number_of, number_in};
 ghost use Rattle.numbers.specs.Table.{table_of};
 ghost use Rattle.area.specs.Clock.{reset_of};
 ghost use Rattle.records.specs.Record.{state_of};
@@ -7,7 +8,8 @@ ghost use Rattle.host.specs.Calls as Spec;
 ghost use Rattle.host.specs.Lists.{AllRecordLists, ResetOnSays};
 
 use area::{State, put_time};
-use records::{is_damaged, put_numbers, put_outcome, put_state, state_of};
+use records::{is_damaged, put_outcome, put_pair, put_state, state_of};
+use refusals::Refusal;
 
 // A fresh state's record. Demand 3 holds of every list of frames, settling runs and resets on it, under tables or not.
 pub fn strakobud_fresh(state: &mut [u8; 156])
@@ -26,12 +28,17 @@ pub fn strakobud_reset(state: &mut [u8; 156])
 }
 
 // By table T.
-pub fn strakobud_frame(state: &mut [u8; 156], frame: &[u8], out: &mut [u8; 100]) -> u32
-    ensures { record { refusal = result; state = state.new; out = out.new }
+// Stays: C has a call without a table beside the one with it.
+#[tactic(auto, unfolding(numbers::specs::Table::table_of))]
+pub fn strakobud_frame(
+    state: &mut [u8; 156],
+    frame: &[u8],
+    out: &mut [u8; 100],
+) -> Result<(), Refusal>
+    ensures { record { refusal = number_in result; state = state.new; out = out.new }
         ≡ Spec.frame_on state.old frame.now out.old }
 {
-    let none: [u8; 0] = [];
-    frame_under(state, frame, &none, out)
+    frame_under(state, frame, &[], out)
 }
 
 pub fn strakobud_frame_by(
@@ -39,49 +46,48 @@ pub fn strakobud_frame_by(
     frame: &[u8],
     table: &[u8; 8200],
     out: &mut [u8; 100],
-) -> u32
-    ensures { record { refusal = result; state = state.new; out = out.new }
+) -> Result<(), Refusal>
+    ensures { record { refusal = number_in result; state = state.new; out = out.new }
         ≡ Spec.frame_under (table_of table.now) state.old frame.now out.old }
 {
     frame_under(state, frame, table, out)
 }
 
 // By the table that the bytes stand for.
-fn frame_under(state: &mut [u8; 156], frame: &[u8], table: &[u8], out: &mut [u8; 100]) -> u32
-    ensures { record { refusal = result; state = state.new; out = out.new }
+#[tactic(auto, using(refusals::proofs::Refused::not_0), unfolding(crate::specs::Calls::frame_under, area::specs::Outcome::refused_of))]
+fn frame_under(
+    state: &mut [u8; 156],
+    frame: &[u8],
+    table: &[u8],
+    out: &mut [u8; 100],
+) -> Result<(), Refusal>
+    ensures { record { refusal = number_in result; state = state.new; out = out.new }
         ≡ Spec.frame_under (table_of table.now) state.old frame.now out.old }
 {
     if is_damaged(state, 0) {
-        return damaged_refusal(frame);
+        return Err(damaged_refusal(frame));
     }
-    let a = area::frame_by(state_of(state), frame, table);
-    if a.outcome.refusal == 0 {
-        put_state(state, a.state);
-        put_outcome(out, a.outcome);
-        return 0;
-    }
-    a.outcome.refusal
+    let accepted = area::frame_by(state_of(state), frame, table)?;
+    put_state(state, accepted.state);
+    put_outcome(out, accepted.outputs);
+    Ok(())
 }
 
 // The lowest of checks 1 to 5 that applies, or 6.
-pub fn damaged_refusal(frame: &[u8]) -> u32
-    ensures { result ≡ Spec.damaged_refusal frame.now }
+#[tactic(auto, using(refusals::proofs::Refused::not_0))]
+pub fn damaged_refusal(frame: &[u8]) -> Refusal
+    ensures { number_of result ≡ Spec.damaged_refusal frame.now }
 {
-    let refusal = area::frame_refusal(frame);
-    let passes = refusal == 0;
-    if passes {
-        return 6;
-    }
-    refusal
+    area::check_frame(frame).err().unwrap_or(Refusal::State)
 }
 
-pub fn strakobud_offset(state: &[u8; 156], out: &mut [u8; 8]) -> u32
-    ensures { record { refusal = result; out = out.new } ≡ Spec.offset_on state.now out.old }
+#[tactic(auto, using(records::proofs::PartLaws::put_all), unfolding(crate::specs::Calls::offset_on))]
+pub fn strakobud_offset(state: &[u8; 156], out: &mut [u8; 8]) -> Result<(), Refusal>
+    ensures { record { refusal = number_in result; out = out.new } ≡ Spec.offset_on state.now out.old }
 {
     if is_damaged(state, 0) {
-        return 6;
+        return Err(Refusal::State);
     }
-    let offset = state_of(state).clamped_offset();
-    put_numbers(out, 0, offset);
-    0
+    put_pair(out, 0, state_of(state).clamped_offset());
+    Ok(())
 }

@@ -1,184 +1,179 @@
 // The calls on one axis by itself. On a refusal out holds what was given, with the answer 0.
-ghost use Rattle.std.specs.Prelude.{◌≡◌};
+ghost use Rattle.std.specs.Prelude.{◌≡◌, ◌*◌, [], ◌∷◌, length, IfOk, OnOk};
+ghost use Rattle.words.specs.Words.{bytes_of};
+ghost use Rattle.refusals.specs.Refusal.{number_in};
 ghost use Rattle.numbers.specs.Table.{table_of};
-ghost use Rattle.axis.specs.Call.{drag_call_of, step_call_under, wheel_call_of};
-ghost use Rattle.area.specs.Frame.{Holds, word_no, number_no, flag_no};
-ghost use Rattle.records.specs.Record.{is_no_flag, is_no_flags};
+ghost use Rattle.area.specs.Frame.{Holds, word_no};
 ghost use Rattle.host.specs.Calls as Spec;
 
-use area::{flag_at, number_at, source_at, word_at};
-use axis::call::{DragAnswer, StepAnswer, WheelAnswer};
+use area::{FromWords, kind_at, word_at};
 use axis::{AxisPhysics, KineticScrollStyle, WheelScroll};
-use numbers::{Rangef, bits_of_f32};
-use records::flag_word;
+use numbers::{Ieee, Rangef};
+use records::is_no_flag;
+use refusals::Refusal;
 
 // The words that begin each call.
+// Stays: FromWords is area's and the type axis's, so no impl of it can stand here; scroll_of likewise.
+#[tactic(auto, unfolding(crate::specs::Calls::axis_of, area::specs::Frame::rangef_no))]
 fn axis_of(call: &[u8]) -> AxisPhysics
     requires { Holds call.now 1 5 }
     ensures { result ≡ Spec.axis_of call.now }
 {
     AxisPhysics {
-        bounds: Rangef {
-            min: number_at(call, 1),
-            max: number_at(call, 2),
-        },
-        viewport_extent: number_at(call, 3),
+        bounds: Rangef::at(call, 1),
+        viewport_extent: f32::at(call, 3),
         style: KineticScrollStyle {
-            decay_time: number_at(call, 4),
-            stop_distance: number_at(call, 5),
-            rubber_band: flag_at(call, 6),
+            decay_time: f32::at(call, 4),
+            stop_distance: f32::at(call, 5),
+            rubber_band: bool::at(call, 6),
         },
     }
 }
 
-fn is_no_flag(s: &[u8], n: u32) -> bool
-    requires { Holds s.now n 0 }
-    ensures { result ≡ is_no_flag (word_no s.now) n }
-{
-    1 < word_at(s, n)
-}
-
-// Either of two.
-fn is_no_flags(s: &[u8], m: u32, n: u32) -> bool
-    requires { Holds s.now m 0 × Holds s.now n 0 }
-    ensures { result ≡ is_no_flags (word_no s.now) m n }
-{
-    is_no_flag(s, m) | is_no_flag(s, n)
-}
-
-fn scroll_of(call: &[u8]) -> WheelScroll
-    requires { Holds call.now 1 12 }
+#[tactic(auto, unfolding(crate::specs::Calls::scroll_of))]
+fn scroll_of(call: &[u8; 52]) -> WheelScroll
     ensures { result ≡ Spec.scroll_of call.now }
 {
     WheelScroll {
-        delta: number_at(call, 9),
-        source: source_at(call, 10),
-        can_chain_to_parent: flag_at(call, 11),
-        dt: number_at(call, 12),
+        delta: f32::at(call, 9),
+        source: kind_at(call, 10),
+        can_chain_to_parent: bool::at(call, 11),
+        dt: f32::at(call, 12),
     }
 }
 
-pub fn strakobud_drag(call: &[u8; 32], out: &mut [u8; 4]) -> u32
-    ensures { record { refusal = result; out = out.new } ≡ Spec.drag_on call.now }
+// Into out go the words of an answer, or on a refusal what was given.
+#[tactic(auto, using(records::proofs::PartLaws::put_all))]
+fn put_answer<const N: usize>(
+    out: &mut [u8],
+    given: &[u32; N],
+    answer: &Result<[u32; N], Refusal>,
+) -> Result<(), Refusal>
+    requires { length out.old ≡ 4 * N }
+    ensures answers { record { refusal = number_in result; out = out.new } ≡ Spec.words_left given.now answer.now }
+    ensures holds { OnOk result (IfOk answer.now (λ words. out.new ≡ bytes_of words)) }
 {
-    let c: &[u8] = call;
-    words::put(out, 0, &[word_at(c, 7)]);
-    if is_no_flag(c, 6) {
-        return 2;
+    match answer {
+        Ok(words) => {
+            words::put(out, 0, words);
+            Ok(())
+        }
+        Err(refusal) => {
+            words::put(out, 0, given);
+            Err(*refusal)
+        }
     }
-    let a = drag_of(c);
-    if a.refusal == 0 {
-        words::put(out, 0, &[bits_of_f32(a.offset)]);
-        return 0;
-    }
-    a.refusal
 }
 
-fn drag_of(call: &[u8]) -> DragAnswer
-    requires { Holds call.now 1 7 }
-    ensures { result ≡ drag_call_of (Spec.axis_of call.now) (number_no call.now 7) (number_no call.now 8) }
+pub fn strakobud_drag(call: &[u8; 32], out: &mut [u8; 4]) -> Result<(), Refusal>
+    ensures { record { refusal = number_in result; out = out.new } ≡ Spec.drag_on call.now }
 {
-    axis::call::drag(axis_of(call), number_at(call, 7), number_at(call, 8))
+    put_answer(out, &[word_at(call, 7)], &dragged(call))
+}
+
+#[tactic(auto, using(refusals::proofs::Refused::not_0), unfolding(crate::specs::Calls::drag_on))]
+fn dragged(call: &[u8; 32]) -> Result<[u32; 1], Refusal>
+    ensures { Spec.words_left (word_no call.now 7 ∷ []) result ≡ Spec.drag_on call.now }
+{
+    if is_no_flag(word_at(call, 6)) {
+        return Err(Refusal::FlagOrKind);
+    }
+    let offset = axis::call::drag(axis_of(call), f32::at(call, 7), f32::at(call, 8))?;
+    Ok([offset.bits()])
 }
 
 // By table T.
-pub fn strakobud_step(call: &[u8; 40], out: &mut [u8; 12]) -> u32
-    ensures { record { refusal = result; out = out.new } ≡ Spec.step_on call.now }
+// Stays: C has a call without a table beside the one with it.
+#[tactic(auto, unfolding(numbers::specs::Table::table_of))]
+pub fn strakobud_step(call: &[u8; 40], out: &mut [u8; 12]) -> Result<(), Refusal>
+    ensures { record { refusal = number_in result; out = out.new } ≡ Spec.step_on call.now }
 {
-    let none: [u8; 0] = [];
-    step_under(call, &none, out)
+    step_under(call, &[], out)
 }
 
-pub fn strakobud_step_by(call: &[u8; 40], table: &[u8; 8200], out: &mut [u8; 12]) -> u32
-    ensures { record { refusal = result; out = out.new } ≡ Spec.step_under (table_of table.now) call.now }
+pub fn strakobud_step_by(
+    call: &[u8; 40],
+    table: &[u8; 8200],
+    out: &mut [u8; 12],
+) -> Result<(), Refusal>
+    ensures { record { refusal = number_in result; out = out.new } ≡ Spec.step_under (table_of table.now) call.now }
 {
     step_under(call, table, out)
 }
 
 // By the table that the bytes stand for.
-fn step_under(call: &[u8; 40], table: &[u8], out: &mut [u8; 12]) -> u32
-    ensures { record { refusal = result; out = out.new } ≡ Spec.step_under (table_of table.now) call.now }
+fn step_under(call: &[u8; 40], table: &[u8], out: &mut [u8; 12]) -> Result<(), Refusal>
+    ensures { record { refusal = number_in result; out = out.new } ≡ Spec.step_under (table_of table.now) call.now }
 {
-    let c: &[u8] = call;
-    words::put(out, 0, &[word_at(c, 7), word_at(c, 8), 0]);
-    if is_no_flags(c, 6, 10) {
-        return 2;
-    }
-    let a = step_of(c, table);
-    if a.refusal == 0 {
-        words::put(
-            out,
-            0,
-            &[
-                bits_of_f32(a.stepped.offset),
-                bits_of_f32(a.stepped.vel),
-                flag_word(a.stepped.moving),
-            ],
-        );
-        return 0;
-    }
-    a.refusal
+    put_answer(
+        out,
+        &[word_at(call, 7), word_at(call, 8), 0],
+        &stepped(call, table),
+    )
 }
 
-fn step_of(call: &[u8], table: &[u8]) -> StepAnswer
-    requires { Holds call.now 1 9 }
-    ensures { result ≡ step_call_under (table_of table.now) (Spec.axis_of call.now) (number_no call.now 7) (number_no call.now 8)
-        (number_no call.now 9) (flag_no call.now 10) }
+#[tactic(auto, using(refusals::proofs::Refused::not_0), unfolding(crate::specs::Calls::step_under))]
+fn stepped(call: &[u8; 40], table: &[u8]) -> Result<[u32; 3], Refusal>
+    ensures { Spec.words_left (word_no call.now 7 ∷ word_no call.now 8 ∷ 0 ∷ []) result ≡ Spec.step_under (table_of table.now) call.now }
 {
-    axis::call::step_by(
+    if is_no_flag(word_at(call, 6)) | is_no_flag(word_at(call, 10)) {
+        return Err(Refusal::FlagOrKind);
+    }
+    let stepped = axis::call::step_by(
         axis_of(call),
-        number_at(call, 7),
-        number_at(call, 8),
-        number_at(call, 9),
-        flag_at(call, 10),
+        f32::at(call, 7),
+        f32::at(call, 8),
+        f32::at(call, 9),
+        bool::at(call, 10),
         table,
+    )?;
+    Ok([
+        stepped.offset.bits(),
+        stepped.vel.bits(),
+        u32::from(stepped.moving),
+    ])
+}
+
+pub fn strakobud_wheel(call: &[u8; 52], out: &mut [u8; 16]) -> Result<(), Refusal>
+    ensures answers { record { refusal = number_in result; out = out.new } ≡ Spec.wheel_on call.now }
+    ensures holds { OnOk result (Spec.WheelOnHolds call.now out.new) }
+{
+    put_answer(
+        out,
+        &[word_at(call, 7), word_at(call, 8), word_at(call, 13), 0],
+        &wheeled(call),
     )
 }
 
-pub fn strakobud_wheel(call: &[u8; 52], out: &mut [u8; 16]) -> u32
-    ensures answers { record { refusal = result; out = out.new } ≡ Spec.wheel_on call.now }
-    ensures holds { result ≡ 0 → Spec.WheelOnHolds call.now out.new }
+#[tactic(auto, using(refusals::proofs::Refused::not_0), unfolding(crate::specs::Calls::wheel_on))]
+fn wheeled(call: &[u8; 52]) -> Result<[u32; 4], Refusal>
+    ensures answers { Spec.words_left (word_no call.now 7 ∷ word_no call.now 8 ∷ word_no call.now 13 ∷ 0 ∷ []) result ≡ Spec.wheel_on call.now }
+    ensures holds { IfOk result (λ words. Spec.WheelOnHolds call.now (bytes_of words)) }
 {
-    let c: &[u8] = call;
-    words::put(out, 0, &[word_at(c, 7), word_at(c, 8), word_at(c, 13), 0]);
-    if is_wheel_outside(c) {
-        return 2;
+    if is_wheel_outside(call) {
+        return Err(Refusal::FlagOrKind);
     }
-    let a = wheel_of(c);
-    if a.refusal == 0 {
-        words::put(
-            out,
-            0,
-            &[
-                bits_of_f32(a.wheeled.offset),
-                bits_of_f32(a.wheeled.vel),
-                flag_word(a.wheeled.bounced_this_momentum),
-                flag_word(a.wheeled.consumed),
-            ],
-        );
-        return 0;
-    }
-    a.refusal
-}
-
-fn wheel_of(call: &[u8]) -> WheelAnswer
-    requires { Holds call.now 1 12 }
-    ensures { result ≡ wheel_call_of (Spec.axis_of call.now) (number_no call.now 7) (number_no call.now 8)
-        (Spec.scroll_of call.now) (flag_no call.now 13) }
-{
-    axis::call::wheel(
+    let wheeled = axis::call::wheel(
         axis_of(call),
-        number_at(call, 7),
-        number_at(call, 8),
+        f32::at(call, 7),
+        f32::at(call, 8),
         scroll_of(call),
-        flag_at(call, 13),
-    )
+        bool::at(call, 13),
+    )?;
+    Ok([
+        wheeled.offset.bits(),
+        wheeled.vel.bits(),
+        u32::from(wheeled.bounced_this_momentum),
+        u32::from(wheeled.consumed),
+    ])
 }
 
 // A flag or the kind of a wheel call outside its values.
-fn is_wheel_outside(call: &[u8]) -> bool
-    requires { Holds call.now 1 12 }
+fn is_wheel_outside(call: &[u8; 52]) -> bool
     ensures { result ≡ Spec.is_wheel_outside call.now }
 {
-    is_no_flag(call, 6) | (4 < word_at(call, 10)) | is_no_flag(call, 11) | is_no_flag(call, 13)
+    is_no_flag(word_at(call, 6))
+        | (4 < word_at(call, 10))
+        | is_no_flag(word_at(call, 11))
+        | is_no_flag(word_at(call, 13))
 }

@@ -27,7 +27,7 @@ pub extern "C" fn strakobud_frame(state: &mut [u8; 156], frame: &[u8], out: &mut
     ensures { record { refusal = result; state = state.new; out = out.new }
         ≡ Spec.frame_on state.old frame.now out.old }
 {
-    host::strakobud_frame(state, frame, out)
+    refusals::number(&host::strakobud_frame(state, frame, out))
 }
 
 #[unsafe(no_mangle)]
@@ -40,12 +40,12 @@ pub extern "C" fn strakobud_frame_by(
     ensures { record { refusal = result; state = state.new; out = out.new }
         ≡ Spec.frame_under (table_of table.now) state.old frame.now out.old }
 {
-    host::strakobud_frame_by(state, frame, table, out)
+    refusals::number(&host::strakobud_frame_by(state, frame, table, out))
 }
 
 #[unsafe(no_mangle)]
 pub extern "C" fn strakobud_offset(state: &[u8; 156], out: &mut [u8; 8]) -> u32
     ensures { record { refusal = result; out = out.new } ≡ Spec.offset_on state.now out.old }
 {
-    host::strakobud_offset(state, out)
+    refusals::number(&host::strakobud_offset(state, out))
 }

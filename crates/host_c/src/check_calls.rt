@@ -7,5 +7,5 @@ pub extern "C" fn strakobud_bad_word(frame: &[u8]) -> u32
     ensures answers { result ≡ Spec.bad_word frame.now }
     ensures holds { Spec.BadWordHolds frame.now result }
 {
-    host::strakobud_bad_word(frame)
+    host::strakobud_bad_word(frame).unwrap_or(0)
 }

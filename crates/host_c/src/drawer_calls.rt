@@ -12,7 +12,7 @@ pub extern "C" fn strakobud_drawer_lay(drawer: &mut [u8]) -> u32
     ensures lists { result ≡ 0 → AllDrawerLists drawer.new }
     ensures order { result ≡ 0 → AllAscend drawer.new }
 {
-    host::strakobud_drawer_lay(drawer)
+    refusals::number(&host::strakobud_drawer_lay(drawer))
 }
 
 #[unsafe(no_mangle)]
@@ -21,7 +21,7 @@ pub extern "C" fn strakobud_drawer_save(drawer: &mut [u8], id: u64, state: &[u8;
         ≡ Spec.save_on drawer.old id state.now }
     ensures kept { result ≡ 0 → is_drawer Spec.width drawer.new ≡ true }
 {
-    host::strakobud_drawer_save(drawer, id, state)
+    refusals::number(&host::strakobud_drawer_save(drawer, id, state))
 }
 
 #[unsafe(no_mangle)]
@@ -30,7 +30,7 @@ pub extern "C" fn strakobud_drawer_load(drawer: &[u8], id: u64, state: &mut [u8;
         ≡ Spec.load_on drawer.now id state.old }
     ensures stands { TidiedHolds }
 {
-    host::strakobud_drawer_load(drawer, id, state)
+    refusals::number(&host::strakobud_drawer_load(drawer, id, state))
 }
 
 #[unsafe(no_mangle)]
@@ -38,5 +38,5 @@ pub extern "C" fn strakobud_drawer_forget(drawer: &mut [u8], id: u64) -> u32
     ensures answers { record { refusal = result; drawer = drawer.new } ≡ Spec.forget_on drawer.old id }
     ensures kept { result ≡ 0 → is_drawer Spec.width drawer.new ≡ true }
 {
-    host::strakobud_drawer_forget(drawer, id)
+    refusals::number(&host::strakobud_drawer_forget(drawer, id))
 }

@@ -13,7 +13,7 @@ pub extern "C" fn strakobud_settle(
     ensures { record { refusal = result; state = state.new; used = used.new }
         ≡ Spec.settle_on state.old frame.now run.now used.old }
 {
-    host::strakobud_settle(state, frame, run, used)
+    refusals::number(&host::strakobud_settle(state, frame, run, used))
 }
 
 #[unsafe(no_mangle)]
@@ -27,5 +27,5 @@ pub extern "C" fn strakobud_settle_by(
     ensures { record { refusal = result; state = state.new; used = used.new }
         ≡ Spec.settle_under (table_of table.now) state.old frame.now run.now used.old }
 {
-    host::strakobud_settle_by(state, frame, table, run, used)
+    refusals::number(&host::strakobud_settle_by(state, frame, table, run, used))
 }

@@ -8,7 +8,7 @@ pub extern "C" fn strakobud_table_load(bytes: &[u8], table: &mut [u8; 8200]) -> 
     ensures answers { record { refusal = result; table = table.new } ≡ Spec.load_on bytes.now table.old }
     ensures serves { result ≡ 0 → Served table.new }
 {
-    host::strakobud_table_load(bytes, table)
+    refusals::number(&host::strakobud_table_load(bytes, table))
 }
 
 #[unsafe(no_mangle)]

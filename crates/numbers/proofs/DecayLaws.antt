@@ -94,8 +94,8 @@ pub every_table : EveryTable
 every_table = record { ordered = is_bounded; loaded = λ bytes z. is_bounded (table_of bytes) (loaded_is_table bytes z) }
 
 -- and of bytes that nobody loaded, since a lent entry counts as 2^40 at most
-pub so_in_unit : (bytes : List ℕ) (x r : Float) → r ≡ exp_of (table_of bytes) x → (r ≡ exp_of (table_of bytes) x) × IsInUnit x r
-so_in_unit bytes x r h = (h, subst (IsInUnit x) (sym h) (in_unit (table_of bytes) (lent_at_most bytes) x))
+pub bounded : (bytes : List ℕ) (x r : Float) → r ≡ exp_of (table_of bytes) x → IsInUnit x r
+bounded bytes x r h = subst (IsInUnit x) (sym h) (in_unit (table_of bytes) (lent_at_most bytes) x)
 
 -- ---- by T: above 0 from -80 on
 

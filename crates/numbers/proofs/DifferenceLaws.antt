@@ -10,7 +10,7 @@ use lib.Ieee.Order.{round_mono}
 use Rattle.numbers.specs.F32 as F32
 use Rattle.numbers.specs.Scalar.{is_finite}
 use Rattle.numbers.proofs.TestLaws.{and_both, fails_left, chosen, either}
-use Rattle.numbers.proofs.CeilLaws.{neg_round}
+use Rattle.numbers.proofs.WholeLaws.{neg_round}
 use Rattle.numbers.proofs.HeldLaws.{says, round_0, part_exact, pow_le_back}
 use Rattle.numbers.proofs.MonotoneLaws.{IsSigned, of_le, round_signed}
 

@@ -1,9 +1,9 @@
 -- One halving: the code's, by the number of halvings left, is the definition's; and where the half lies. Assumes nothing.
-use Rattle.std.proofs.Common.{◌≡◌, ℕ, zero, suc, ◌-◌, ◌<◌, Bool, true, false, ◌&&◌, T, ltb, pos, sym, refl, ap, ◌∙◌, subst, zero-lt-suc, sub-one, ltb→lt, lt-ltb}
+use Rattle.std.proofs.Common.{◌≡◌, ℕ, zero, suc, ◌-◌, Bool, true, false, ◌&&◌, T, ltb, pos, sym, refl, ap, ◌∙◌, subst, zero-lt-suc, sub-one, lt-ltb}
 use mathlib.Core.Bool.{false≢true}
 use lib.Ieee.{Float, fin, neg, div, of_bits, lt, le, eq}
 use lib.Ieee.Bits.{is_true}
-use lib.Ieee.Fits.{and_l, and_r}
+use lib.Ieee.Fits.{and_r}
 use Rattle.numbers.specs.F32.{over, two, sixteen, eighty}
 use Rattle.numbers.specs.F32 as F32
 use Rattle.numbers.specs.Scalar.{powi2_of, is_finite}
@@ -12,10 +12,6 @@ use Rattle.numbers.specs.Exp.{by_table, halved_of, exp_of}
 use Rattle.numbers.proofs.WithinLaws.{Within, wider, at_least, quotient}
 
 -- ---- the code's halving
-
--- a halving is left
-pub some_left : (left : ℕ) (below : Bool) → (ltb 0 left && below) ≡ true → 0 < left
-some_left left below h = ltb→lt 0 left (and_l (ltb 0 left) below (subst T (sym h) tt))
 
 pub halves : (table : Table) (left : ℕ) (x e : Float) → (ltb 0 left && lt x (neg sixteen)) ≡ true → e ≡ halved_of table (left - 1) (over x two)
     → powi2_of e ≡ halved_of table left x

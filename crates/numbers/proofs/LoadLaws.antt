@@ -1,8 +1,8 @@
 -- Bytes that load are a table and are read as they stand; and no entry of a lent table counts as more than 2^40. Assumes nothing.
-use Rattle.std.proofs.Common.{◌≡◌, ℕ, zero, suc, ◌+◌, ◌-◌, ◌^◌, ◌<◌, ◌≤◌, min, Bool, true, false, cond, not, ◌&&◌, T, eqb, ltb, List, length, sym, refl, ap, ◌∙◌, subst, le_of_suc-le-suc, le_of_lt, suc-add, zero-add, sub-add_cancel, not-le_of_lt, arith, eqb→eq, ltb→lt, nltb→le, lt-ltb, eq-eqb}
+use Rattle.std.proofs.Common.{◌≡◌, ℕ, zero, suc, ◌+◌, ◌-◌, ◌^◌, ◌<◌, ◌≤◌, min, Bool, true, false, cond, not, ◌&&◌, T, eqb, ltb, List, length, sym, refl, ap, ◌∙◌, subst, ◌≢◌, add-one, le_of_suc-le-suc, le_of_lt, suc-add, zero-add, sub-add_cancel, not-le_of_lt, arith, eqb→eq, ltb→lt, nltb→le, lt-ltb, eq-eqb}
 use borrow.Author.Tests.{eqb-false}
 use lib.Dec.{not_T}
-use lib.Ieee.Bits.{is_true}
+use lib.Ieee.Bits.{is_true, is_false}
 use lib.Ieee.Fits.{and_i, and_l, and_r}
 use Rattle.words.specs.Words.{long_at}
 use Rattle.numbers.specs.Table.{table_at, is_ordered, load_of, table_of, IsTable, Served, Loads}
@@ -50,6 +50,16 @@ module _ (bytes : List ℕ) where
       and_i (is_ordered bytes n) (not (ltb (long_at bytes n) (long_at bytes (suc n))))
       (is_ordered_lem is n (le_of_lt h))
       (not_T (ltb (long_at bytes n) (long_at bytes (suc n))) (λ t. not-le_of_lt (ltb→lt (long_at bytes n) (long_at bytes (suc n)) t) (is.falls n h)))
+
+  pub other_first : (n : ℕ) → long_at bytes 0 ≢ 2 ^ 40 → false ≡ is_ordered bytes n
+  other_first n other = sym (is_false (is_ordered bytes n) (not_T (is_ordered bytes n) (λ t. other (first n t))))
+
+  pub rises : (k n : ℕ) → k < n → long_at bytes k < long_at bytes (k + 1) → false ≡ is_ordered bytes n
+  rises k n below up =
+      let falls_to : T (is_ordered bytes n) → long_at bytes (suc k) ≤ long_at bytes k =
+      λ t. falls k (fewer (suc k) (n - suc k) (subst (λ (i : ℕ). T (is_ordered bytes i)) (sym (sub-add_cancel below)) t)) in
+      let up' : long_at bytes k < long_at bytes (suc k) = subst (λ (i : ℕ). long_at bytes k < long_at bytes i) (add-one k) up in
+      sym (is_false (is_ordered bytes n) (not_T (is_ordered bytes n) (λ t. not-le_of_lt up' (falls_to t))))
 
   -- ---- an entry of a lent table
 
@@ -100,5 +110,5 @@ module _ (bytes : List ℕ) where
   unfolding load_of
   all_served l is = rw (eq-eqb (length bytes) 8200 l, is_true (is_ordered bytes 1024) (is_ordered_lem is 1024 (omega arith)))
 
-  pub so_loads : (r : ℕ) → r ≡ load_of bytes → (r ≡ load_of bytes) × Loads bytes r
-  so_loads r h = (h, (λ z. only_served (sym h ∙ z), λ l is. h ∙ all_served l is))
+  pub loads : (r : ℕ) → r ≡ load_of bytes → Loads bytes r
+  loads r h = (λ z. only_served (sym h ∙ z), λ l is. h ∙ all_served l is)

@@ -9,7 +9,7 @@ use lib.Ieee.Exact.{HasValue}
 use lib.Ieee.Order.{round_mono}
 use Rattle.numbers.specs.Scalar.{is_finite}
 use Rattle.numbers.proofs.TestLaws.{either}
-use Rattle.numbers.proofs.CeilLaws.{neg_round}
+use Rattle.numbers.proofs.WholeLaws.{neg_round}
 use Rattle.numbers.proofs.HeldLaws.{whole_exact}
 use Rattle.numbers.proofs.MonotoneLaws.{IsSigned, of_le, round_signed}
 

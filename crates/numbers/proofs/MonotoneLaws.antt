@@ -11,7 +11,7 @@ use lib.Ieee.Positive.{first_pos}
 use Rattle.numbers.specs.F32 as F32
 use Rattle.numbers.specs.Scalar.{is_finite}
 use Rattle.numbers.specs.Convert.{narrow_of}
-use Rattle.numbers.proofs.CeilLaws.{neg_round}
+use Rattle.numbers.proofs.WholeLaws.{neg_round}
 use Rattle.numbers.proofs.HeldLaws.{round_0, held_exact}
 
 -- ---- the order of two finite numbers, by what of each lies above zero and what beneath

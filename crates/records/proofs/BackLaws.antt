@@ -1,4 +1,8 @@
 -- A state that is written and read again is the same, and what is written is not damaged: between the calls nothing is lost.
+use Rattle.std.specs.Prelude.{Option, Some, None}
+use Rattle.numbers.specs.declared.shape.Rect.{Rect}
+use Rattle.area.specs.declared.state.ScrollingToTarget.{ScrollingToTarget}
+use Rattle.std.specs.Prelude.{Float}
 use mathlib.Core.Path.{◌≡◌, refl, ap, ◌∙◌}
 use mathlib.Core.Bool.{Bool, true, false}
 use mathlib.Core.List.{List, [], ◌∷◌}
@@ -9,17 +13,12 @@ use lib.ListN.{get_or}
 use lib.Ieee.{Float, binary32, binary64, of_bits, to_bits}
 use lib.Ieee.Bits.{of_bits-to_bits, to_bits-lt}
 use Rattle.words.specs.Words.{word_at}
-use Rattle.area.specs.Frame.{word_no, number_no, flag_no, pair_no, flags_no, pos2_no, rect_no, maybe_rect_no}
+use Rattle.area.specs.Frame.{word_no, number_no, flag_no, pair_no, flags_no, pos2_no, rect_no, option_no, maybe_rect_no}
 use Rattle.area.specs.Pair.{flag}
 use Rattle.area.specs.State.{no_target, no_press}
 use Rattle.area.specs.declared.state.State.{State}
-use Rattle.area.specs.declared.state.MaybeTarget.{MaybeTarget}
-use Rattle.area.specs.declared.state.OffsetTarget.{OffsetTarget}
-use Rattle.area.specs.declared.state.MaybePress.{MaybePress}
-use Rattle.area.specs.declared.state.StartOffset.{StartOffset}
-use Rattle.area.specs.declared.state.MaybeRect.{MaybeRect}
-use Rattle.records.specs.Record.{number_word, flag_word, number_words, flag_words, target_words, press_words, maybe_rect_words, state_words, record_of}
-use Rattle.records.specs.Record.{maybe_target_no, offset_target_no, maybe_press_no, start_offset_no, state_of, is_no_flag, is_damaged}
+use Rattle.records.specs.Record.{option_words, span_words, rect_words, number_word, flag_word, number_words, flag_words, target_words, press_words, maybe_rect_words, state_words, record_of}
+use Rattle.records.specs.Record.{maybe_target_no, maybe_press_no, state_of, is_no_flag, is_damaged}
 use Rattle.records.specs.Held.{Is32, ArePair, AreFlags, IsTarget, AreTargets, IsPress, ArePresses, IsRect, IsHeld}
 use Rattle.area.proofs.TimeLaws.{low_small, high_small, time_read_back}
 use Rattle.records.proofs.RecordLaws.{state_parts, state_right}
@@ -67,10 +66,10 @@ flags_back s n (a ∷ b ∷ []) held read = rw (
 flags_back s n (a ∷ b ∷ c ∷ v) held read = absurd held
 
 -- ---- options
-target_back : (s : List ℕ) (n : ℕ) (t : MaybeTarget) → IsTarget t → Reads s n (target_words t) → maybe_target_no s n ≡ t
+target_back : (s : List ℕ) (n : ℕ) (t : Option ScrollingToTarget) → IsTarget t → Reads s n (target_words t) → maybe_target_no s n ≡ t
 unfolding maybe_target_no
-target_back s n MaybeTarget.Nothing held read = rw (flag_back s n false (read 0 n (omega arith) (lit< tt) (lit< tt)))
-target_back s n (MaybeTarget.Toward t) held read = rw (
+target_back s n None held read = rw (flag_back s n false (read 0 n (omega arith) (lit< tt) (lit< tt)))
+target_back s n (Some t) held read = rw (
   flag_back s n true (read 0 n (omega arith) (lit< tt) (lit< tt)),
   time_read_back s (n + 1) t.start held.0
       (read 1 (n + 1) refl (lit< tt) (low_small (to_bits binary64 t.start)))
@@ -81,18 +80,18 @@ target_back s n (MaybeTarget.Toward t) held read = rw (
   number_back s (n + 5) t.target_offset held.2 (read 5 (n + 5) refl (lit< tt) (number_small t.target_offset held.2)),
 )
 
-press_back : (s : List ℕ) (n : ℕ) (p : MaybePress) → IsPress p → Reads s n (press_words p) → maybe_press_no s n ≡ p
+press_back : (s : List ℕ) (n : ℕ) (p : Option Float) → IsPress p → Reads s n (press_words p) → maybe_press_no s n ≡ p
 unfolding maybe_press_no
-press_back s n MaybePress.Nothing held read = rw (flag_back s n false (read 0 n (omega arith) (lit< tt) (lit< tt)))
-press_back s n (MaybePress.At x) held read = rw (
+press_back s n None held read = rw (flag_back s n false (read 0 n (omega arith) (lit< tt) (lit< tt)))
+press_back s n (Some x) held read = rw (
   flag_back s n true (read 0 n (omega arith) (lit< tt) (lit< tt)),
   number_back s (n + 1) x held (read 1 (n + 1) refl (lit< tt) (number_small x held)),
 )
 
-rect_back : (s : List ℕ) (n : ℕ) (r : MaybeRect) → IsRect r → Reads s n (maybe_rect_words r) → maybe_rect_no s n ≡ r
-unfolding maybe_rect_no rect_no pos2_no
-rect_back s n MaybeRect.Nothing held read = rw (flag_back s n false (read 0 n (omega arith) (lit< tt) (lit< tt)))
-rect_back s n (MaybeRect.Some r) held read = rw (
+rect_back : (s : List ℕ) (n : ℕ) (r : Option Rect) → IsRect r → Reads s n (maybe_rect_words r) → maybe_rect_no s n ≡ r
+unfolding option_no rect_no pos2_no
+rect_back s n None held read = rw (flag_back s n false (read 0 n (omega arith) (lit< tt) (lit< tt)))
+rect_back s n (Some r) held read = rw (
   flag_back s n true (read 0 n (omega arith) (lit< tt) (lit< tt)),
   number_back s (n + 1) r.min.x held.0 (read 1 (n + 1) refl (lit< tt) (number_small r.min.x held.0)),
   number_back s (n + 1 + 1) r.min.y held.1 (read 2 (n + 1 + 1) (omega arith) (lit< tt) (number_small r.min.y held.1)),
@@ -100,20 +99,20 @@ rect_back s n (MaybeRect.Some r) held read = rw (
   number_back s (n + 1 + 2 + 1) r.max.y held.3 (read 4 (n + 1 + 2 + 1) (omega arith) (lit< tt) (number_small r.max.y held.3)),
 )
 
-targets_back : (s : List ℕ) (n m : ℕ) (v : List OffsetTarget) → AreTargets v → Reads s n (target_words (get_or v 0 no_target).target)
-    → Reads s m (target_words (get_or v 1 no_target).target) → offset_target_no s n ∷ offset_target_no s m ∷ [] ≡ v
-unfolding offset_target_no
+targets_back : (s : List ℕ) (n m : ℕ) (v : List (Option ScrollingToTarget)) → AreTargets v → Reads s n (target_words (get_or v 0 no_target))
+    → Reads s m (target_words (get_or v 1 no_target)) → maybe_target_no s n ∷ maybe_target_no s m ∷ [] ≡ v
+unfolding maybe_target_no
 targets_back s n m [] held first second = absurd held
 targets_back s n m (t ∷ []) held first second = absurd held
-targets_back s n m (t ∷ u ∷ []) held first second = rw (target_back s n t.target held.0 first, target_back s m u.target held.1 second)
+targets_back s n m (t ∷ u ∷ []) held first second = rw (target_back s n t held.0 first, target_back s m u held.1 second)
 targets_back s n m (t ∷ u ∷ w ∷ v) held first second = absurd held
 
-presses_back : (s : List ℕ) (n m : ℕ) (v : List StartOffset) → ArePresses v → Reads s n (press_words (get_or v 0 no_press).press)
-    → Reads s m (press_words (get_or v 1 no_press).press) → start_offset_no s n ∷ start_offset_no s m ∷ [] ≡ v
-unfolding start_offset_no
+presses_back : (s : List ℕ) (n m : ℕ) (v : List (Option Float)) → ArePresses v → Reads s n (press_words (get_or v 0 no_press))
+    → Reads s m (press_words (get_or v 1 no_press)) → maybe_press_no s n ∷ maybe_press_no s m ∷ [] ≡ v
+unfolding maybe_press_no
 presses_back s n m [] held first second = absurd held
 presses_back s n m (p ∷ []) held first second = absurd held
-presses_back s n m (p ∷ q ∷ []) held first second = rw (press_back s n p.press held.0 first, press_back s m q.press held.1 second)
+presses_back s n m (p ∷ q ∷ []) held first second = rw (press_back s n p held.0 first, press_back s m q held.1 second)
 presses_back s n m (p ∷ q ∷ r ∷ v) held first second = absurd held
 
 -- ---- the state
@@ -153,36 +152,29 @@ fine_first s n v read = fine s n (flag v 0) (read 0 n (omega arith) (lit< tt) (f
 fine_second : (s : List ℕ) (n : ℕ) (v : List Bool) → Reads s n (flag_words v) → is_no_flag (word_no s) (n + 1) ≡ false
 fine_second s n v read = fine s (n + 1) (flag v 1) (read 1 (n + 1) refl (lit< tt) (flag_small (flag v 1)))
 
-fine_target : (s : List ℕ) (n : ℕ) (t : MaybeTarget) → Reads s n (target_words t) → is_no_flag (word_no s) n ≡ false
-fine_target s n MaybeTarget.Nothing read = fine s n false (read 0 n (omega arith) (lit< tt) (lit< tt))
-fine_target s n (MaybeTarget.Toward t) read = fine s n true (read 0 n (omega arith) (lit< tt) (lit< tt))
-
-fine_press : (s : List ℕ) (n : ℕ) (p : MaybePress) → Reads s n (press_words p) → is_no_flag (word_no s) n ≡ false
-fine_press s n MaybePress.Nothing read = fine s n false (read 0 n (omega arith) (lit< tt) (lit< tt))
-fine_press s n (MaybePress.At x) read = fine s n true (read 0 n (omega arith) (lit< tt) (lit< tt))
-
-fine_rect : (s : List ℕ) (n : ℕ) (r : MaybeRect) → Reads s n (maybe_rect_words r) → is_no_flag (word_no s) n ≡ false
-fine_rect s n MaybeRect.Nothing read = fine s n false (read 0 n (omega arith) (lit< tt) (lit< tt))
-fine_rect s n (MaybeRect.Some r) read = fine s n true (read 0 n (omega arith) (lit< tt) (lit< tt))
+fine_option : {A : Type 0} (count : ℕ) (words : A → List ℕ) (s : List ℕ) (n : ℕ) (o : Option A) → Reads s n (option_words count words o)
+    → is_no_flag (word_no s) n ≡ false
+fine_option count words s n None read = fine s n false (read 0 n (omega arith) (omega arith) (lit< tt))
+fine_option count words s n (Some a) read = fine s n true (read 0 n (omega arith) (omega arith) (lit< tt))
 
 pub written_is_undamaged : (s : State) → is_damaged (word_at (record_of s)) 0 ≡ false
 unfolding is_damaged word_no
 written_is_undamaged s =
     let b = record_of s in
     rw (
-      fine_target b 5 (get_or s.offset_target 0 no_target).target (part s 2),
-      fine_target b 11 (get_or s.offset_target 1 no_target).target (part s 3),
+      fine_option 5 span_words b 5 (get_or s.offset_target 0 no_target) (part s 2),
+      fine_option 5 span_words b 11 (get_or s.offset_target 1 no_target) (part s 3),
       fine_first b 17 s.show_scroll (part s 4),
       fine_second b 17 s.show_scroll (part s 4),
       fine_first b 19 s.content_is_too_large (part s 5),
       fine_second b 19 s.content_is_too_large (part s 5),
       fine_first b 21 s.scroll_bar_interaction (part s 6),
       fine_second b 21 s.scroll_bar_interaction (part s 6),
-      fine_press b 25 (get_or s.scroll_start_offset_from_top_left 0 no_press).press (part s 8),
-      fine_press b 27 (get_or s.scroll_start_offset_from_top_left 1 no_press).press (part s 9),
+      fine_option 1 (λ x. number_word x ∷ []) b 25 (get_or s.scroll_start_offset_from_top_left 0 no_press) (part s 8),
+      fine_option 1 (λ x. number_word x ∷ []) b 27 (get_or s.scroll_start_offset_from_top_left 1 no_press) (part s 9),
       fine_first b 29 s.scroll_stuck_to_end (part s 10),
       fine_second b 29 s.scroll_stuck_to_end (part s 10),
-      fine_rect b 31 s.interact_rect (part s 11),
+      fine_option 4 rect_words b 31 s.interact_rect (part s 11),
       fine_first b 36 s.bounced_this_momentum (part s 12),
       fine_second b 36 s.bounced_this_momentum (part s 12),
     )

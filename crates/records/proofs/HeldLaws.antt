@@ -1,14 +1,15 @@
 -- Whatever the bytes, the state that they stand for is one that the code can hold.
+use Rattle.std.specs.Prelude.{Option, None}
+use Rattle.numbers.specs.declared.shape.Rect.{Rect}
+use Rattle.area.specs.declared.state.ScrollingToTarget.{ScrollingToTarget}
+use Rattle.std.specs.Prelude.{Float}
 use mathlib.Core.Bool.{Bool, true, false, cond}
 use mathlib.Core.List.{List}
 use Prim.Native.Nat.{ℕ, ◌+◌}
 use lib.Ieee.{binary32, binary64}
 use lib.Ieee.Bits.{of_bits-fits}
-use Rattle.area.specs.Frame.{word_no, number_no, flag_no, time_no, pair_no, flags_no, pos2_no, rect_no, maybe_rect_no}
-use Rattle.area.specs.declared.state.MaybeTarget.{MaybeTarget}
-use Rattle.area.specs.declared.state.MaybePress.{MaybePress}
-use Rattle.area.specs.declared.state.MaybeRect.{MaybeRect}
-use Rattle.records.specs.Record.{maybe_target_no, offset_target_no, maybe_press_no, start_offset_no, state_of}
+use Rattle.area.specs.Frame.{word_no, number_no, flag_no, time_no, pair_no, flags_no, pos2_no, rect_no, option_no, maybe_rect_no}
+use Rattle.records.specs.Record.{maybe_target_no, maybe_press_no, state_of}
 use Rattle.records.specs.Held.{Is32, Is64, ArePair, AreFlags, IsTarget, IsPress, IsRect, IsHeld}
 
 number : (s : List ℕ) (n : ℕ) → Is32 (number_no s n)
@@ -27,7 +28,7 @@ flags : (s : List ℕ) (n : ℕ) → AreFlags (flags_no s n)
 unfolding flags_no
 flags s n = tt
 
-any_target : (given : Bool) (t : MaybeTarget) → IsTarget t → IsTarget (cond given t MaybeTarget.Nothing)
+any_target : (given : Bool) (t : Option ScrollingToTarget) → IsTarget t → IsTarget (cond given t None)
 any_target true t held = held
 any_target false t held = tt
 
@@ -35,7 +36,7 @@ target : (s : List ℕ) (n : ℕ) → IsTarget (maybe_target_no s n)
 unfolding maybe_target_no
 target s n = any_target (flag_no s n) _ (time s (n + 1), time s (n + 3), number s (n + 5))
 
-any_press : (given : Bool) (p : MaybePress) → IsPress p → IsPress (cond given p MaybePress.Nothing)
+any_press : (given : Bool) (p : Option Float) → IsPress p → IsPress (cond given p None)
 any_press true p held = held
 any_press false p held = tt
 
@@ -43,16 +44,16 @@ press : (s : List ℕ) (n : ℕ) → IsPress (maybe_press_no s n)
 unfolding maybe_press_no
 press s n = any_press (flag_no s n) _ (number s (n + 1))
 
-any_rect : (given : Bool) (r : MaybeRect) → IsRect r → IsRect (cond given r MaybeRect.Nothing)
+any_rect : (given : Bool) (r : Option Rect) → IsRect r → IsRect (cond given r None)
 any_rect true r held = held
 any_rect false r held = tt
 
 rect : (s : List ℕ) (n : ℕ) → IsRect (maybe_rect_no s n)
-unfolding maybe_rect_no rect_no pos2_no
+unfolding option_no rect_no pos2_no
 rect s n = any_rect (flag_no s n) _ (number s (n + 1), number s (n + 1 + 1), number s (n + 1 + 2), number s (n + 1 + 2 + 1))
 
 pub read_is_held : (s : List ℕ) → IsHeld (state_of s)
-unfolding state_of offset_target_no start_offset_no
+unfolding state_of maybe_target_no maybe_press_no
 read_is_held s = record {
   offset = pair s 1;
   max_offset = pair s 3;

@@ -4,7 +4,7 @@ pub mod RecordLaws
 pub mod ReadLaws
 pub mod BackLaws
 pub mod HeldLaws
-pub mod PasteLaws
+pub mod ClearedLaws
 pub mod TidiedLaws
 pub mod TidiedStateLaws
 pub mod TidiedWrittenLaws

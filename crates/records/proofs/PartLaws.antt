@@ -1,10 +1,13 @@
 -- Words put one part after another fill the bytes with the words of all the parts.
 use mathlib.Core.Path.{◌≡◌, refl, sym, ap, ◌∙◌}
 use mathlib.Core.List.{List, [], ◌∷◌, ◌++◌, append-nil, append_assoc}
-use Prim.Native.Nat.{ℕ, ◌+◌, ◌*◌}
+use Prim.Native.Nat.{ℕ, zero, suc, ◌+◌, ◌*◌, ◌≤◌}
+use native.Mathlib.Numerals.{add-one}
 use native.Mathlib.Omega.{arith}
-use lib.ListN.{length, drop, length-append, drop_of_length-le}
+use lib.ListN.{length, take, drop, replicate, length-append, length-drop, length-replicate, drop_of_length-le}
+use borrow.Rule.Slice.PartMut.{put_mid}
 use lib.Seq.{take_at, drop_at, drop-drop}
+use Rattle.std.proofs.lemmas.List.{take-append-drop, length-take-le}
 use Rattle.words.specs.Words.{bytes_of, put_at}
 use Rattle.words.proofs.KeptLaws.{length_bytes}
 
@@ -88,10 +91,45 @@ put_parts_lem qs s right whole =
     ∙ ap (λ (r : List ℕ). bytes_of (words_of qs) ++ r) (drop_of_length-le s {i = 4 * length (words_of qs)} (omega (arith, whole, total_is qs right)))
     ∙ append-nil (bytes_of (words_of qs))
 
+-- ---- two parts, as one
+pub put_twice : (at n : ℕ) (u v s : List ℕ) → length u ≡ n → 4 * at + 4 * n ≤ length s → put_at (at + n) v (put_at at u s) ≡ put_at at (u ++ v) s
+unfolding put_at
+put_twice at n u v s long room =
+    let p = take (4 * at) s in
+    let r = drop (4 * at) s in
+    ap (λ (l : List ℕ). put_at (at + n) v (put_at at u l)) (sym (take-append-drop (4 * at) s))
+    ∙ parts_after ((n, u) ∷ (length v, v) ∷ []) at p r (length-take-le (4 * at) s (omega (arith, room))) (long, (refl, tt))
+    ∙ ap (λ (w : List ℕ). p ++ (bytes_of (u ++ w) ++ drop (4 * length (u ++ w)) r)) (append-nil v)
+
+-- ---- zeros
+pub replicate_suc : (n : ℕ) → ◌≡◌ {A = List ℕ} (replicate (n + 1) 0) (0 ∷ replicate n 0)
+replicate_suc n = ap (λ (m : ℕ). replicate {A = ℕ} m 0) (add-one n)
+
+zero_bytes : (n : ℕ) → bytes_of (replicate n 0) ≡ replicate (4 * n) 0
+unfolding bytes_of
+zero_bytes zero = refl
+zero_bytes (suc n) = ap (λ (l : List ℕ). 0 ∷ 0 ∷ 0 ∷ 0 ∷ l) (zero_bytes n) ∙ ap (λ (m : ℕ). replicate m 0) (four n)
+  where
+    four : (n : ℕ) → suc (suc (suc (suc (4 * n)))) ≡ 4 * suc n
+    four n = omega arith
+
+pub cleared : (at n m : ℕ) (s new : List ℕ) → m ≡ 4 * n → 4 * at + 4 * n ≤ length s → new ≡ replicate (length (take m (drop (4 * at) s))) 0
+    → put_mid (4 * at) m s new ≡ put_at at (replicate n 0) s
+unfolding put_at
+cleared at n m s new wide room zeros =
+    let long : length (take m (drop (4 * at) s)) ≡ 4 * n =
+    length-take-le m (drop (4 * at) s) (omega (arith, wide, room, length-drop (4 * at) s)) ∙ wide in
+    rw (zeros, long, wide, zero_bytes n, length-replicate {A = ℕ} n 0)
+
 -- ---- Puts at parts s t: from s the parts were put from word at on, one call after another, which left t
 pub data Puts : ℕ → List Part → List ℕ → List ℕ → Type 0 where
   done : {at : ℕ} {s : List ℕ} → Puts at [] s s
   next : {at : ℕ} {q : Part} {qs : List Part} {s m t : List ℕ} → m ≡ put_at at q.1 s → Puts (at + q.0) qs m t → Puts at (q ∷ qs) s t
+
+-- of two parts that were put as one
+pub next_two : {at : ℕ} {q r : Part} {qs : List Part} {s m t : List ℕ} → length q.1 ≡ q.0 → 4 * at + 4 * q.0 ≤ length s
+    → m ≡ put_at at (q.1 ++ r.1) s → Puts (at + q.0 + r.0) qs m t → Puts at (q ∷ r ∷ qs) s t
+next_two {at} {q} {r} {s = s} long room left then = next refl (next (left ∙ sym (put_twice at q.0 q.1 r.1 s long room)) then)
 
 pub puts : {at : ℕ} {qs : List Part} {s t : List ℕ} → Puts at qs s t → t ≡ put_parts at qs s
 puts done = refl

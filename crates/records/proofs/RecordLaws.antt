@@ -1,4 +1,7 @@
 -- The parts that the words of a state, and of what a frame puts out besides it, are put in.
+use Rattle.std.specs.Prelude.{Option}
+use Rattle.numbers.specs.declared.shape.Rect.{Rect}
+use Rattle.area.specs.declared.state.ScrollingToTarget.{ScrollingToTarget}
 use mathlib.Core.Path.{◌≡◌, refl, ◌∙◌}
 use mathlib.Core.List.{List, [], ◌∷◌, ◌++◌}
 use Prim.Native.Nat.{ℕ}
@@ -9,38 +12,33 @@ use Rattle.area.specs.State.{no_target, no_press}
 use Rattle.area.specs.Frame.{time_words}
 use Rattle.area.specs.Outcome.{no_handle}
 use Rattle.area.specs.declared.state.State.{State}
-use Rattle.area.specs.declared.state.MaybeTarget.{MaybeTarget}
-use Rattle.area.specs.declared.state.MaybePress.{MaybePress}
-use Rattle.area.specs.declared.state.MaybeRect.{MaybeRect}
-use Rattle.area.specs.declared.outcome.Outcome.{Outcome}
-use Rattle.records.specs.Record.{flag_word, number_words, flag_words, target_words, press_words, rect_words, maybe_rect_words, state_words, record_of, out_words}
+use Rattle.area.specs.Outcome.{Outcome}
+use Rattle.records.specs.Record.{option_counted, span_words, number_word, flag_word, number_words, flag_words, target_words, press_words, rect_words, maybe_rect_words, state_words, record_of, out_words}
 use Rattle.records.proofs.PartLaws.{Part, Right, right_append, words_of, put_parts_lem, Puts, puts}
 
-pub target_length : (t : MaybeTarget) → length (target_words t) ≡ 6
-target_length MaybeTarget.Nothing = refl
-target_length (MaybeTarget.Toward t) = refl
+-- an option has as many words in either case
+abbrev pub target_long : (t : Option ScrollingToTarget) → length (target_words t) ≡ 6
+target_long = option_counted 5 span_words (λ t. refl)
 
-pub press_length : (p : MaybePress) → length (press_words p) ≡ 2
-press_length MaybePress.Nothing = refl
-press_length (MaybePress.At x) = refl
+abbrev pub press_long : (p : Option Float) → length (press_words p) ≡ 2
+press_long = option_counted 1 (λ x. number_word x ∷ []) (λ x. refl)
 
-pub maybe_rect_length : (r : MaybeRect) → length (maybe_rect_words r) ≡ 5
-maybe_rect_length MaybeRect.Nothing = refl
-maybe_rect_length (MaybeRect.Some r) = refl
+abbrev pub rect_long : (r : Option Rect) → length (maybe_rect_words r) ≡ 5
+rect_long = option_counted 4 rect_words (λ r. refl)
 
 -- the Rust's own fields, and the remembered time behind them
 abbrev pub field_parts : State → List Part
 field_parts s =
     (2, number_words s.offset)
     ∷ (2, number_words s.max_offset)
-    ∷ (6, target_words (get_or s.offset_target 0 no_target).target)
-    ∷ (6, target_words (get_or s.offset_target 1 no_target).target)
+    ∷ (6, target_words (get_or s.offset_target 0 no_target))
+    ∷ (6, target_words (get_or s.offset_target 1 no_target))
     ∷ (2, flag_words s.show_scroll)
     ∷ (2, flag_words s.content_is_too_large)
     ∷ (2, flag_words s.scroll_bar_interaction)
     ∷ (2, number_words s.vel)
-    ∷ (2, press_words (get_or s.scroll_start_offset_from_top_left 0 no_press).press)
-    ∷ (2, press_words (get_or s.scroll_start_offset_from_top_left 1 no_press).press)
+    ∷ (2, press_words (get_or s.scroll_start_offset_from_top_left 0 no_press))
+    ∷ (2, press_words (get_or s.scroll_start_offset_from_top_left 1 no_press))
     ∷ (2, flag_words s.scroll_stuck_to_end)
     ∷ (5, maybe_rect_words s.interact_rect)
     ∷ (2, flag_words s.bounced_this_momentum)
@@ -58,9 +56,9 @@ field_right s = (
   (
     refl,
     (
-      target_length (get_or s.offset_target 0 no_target).target,
+      target_long (get_or s.offset_target 0 no_target),
       (
-        target_length (get_or s.offset_target 1 no_target).target,
+        target_long (get_or s.offset_target 1 no_target),
         (
           refl,
           (
@@ -70,10 +68,10 @@ field_right s = (
               (
                 refl,
                 (
-                  press_length (get_or s.scroll_start_offset_from_top_left 0 no_press).press,
+                  press_long (get_or s.scroll_start_offset_from_top_left 0 no_press),
                   (
-                    press_length (get_or s.scroll_start_offset_from_top_left 1 no_press).press,
-                    (refl, (maybe_rect_length s.interact_rect, (refl, tt))),
+                    press_long (get_or s.scroll_start_offset_from_top_left 1 no_press),
+                    (refl, (rect_long s.interact_rect, (refl, tt))),
                   ),
                 ),
               ),
@@ -97,8 +95,8 @@ out_parts o =
     (2, number_words o.content_size)
     ∷ (4, rect_words o.inner_rect)
     ∷ (4, rect_words o.viewport)
-    ∷ (5, maybe_rect_words (get_or o.handles 0 no_handle).rect)
-    ∷ (5, maybe_rect_words (get_or o.handles 1 no_handle).rect)
+    ∷ (5, maybe_rect_words (get_or o.handles 0 no_handle))
+    ∷ (5, maybe_rect_words (get_or o.handles 1 no_handle))
     ∷ (2, number_words o.wheel_delta_left)
     ∷ (2, number_words o.scroll_delta_left)
     ∷ (1, flag_word o.repaint ∷ [])
@@ -112,9 +110,9 @@ out_right o = (
     (
       refl,
       (
-        maybe_rect_length (get_or o.handles 0 no_handle).rect,
+        rect_long (get_or o.handles 0 no_handle),
         (
-          maybe_rect_length (get_or o.handles 1 no_handle).rect,
+          rect_long (get_or o.handles 1 no_handle),
           (refl, (refl, (refl, tt))),
         ),
       ),

@@ -12,7 +12,7 @@ use Rattle.records.specs.Record.{is_damaged}
 use Rattle.records.specs.Tidied.{words_from, words_unless, option_words, tidied}
 use Rattle.records.proofs.PartLaws.{words_of, total_is}
 use Rattle.records.proofs.ReadLaws.{start, part_at, part_word}
-use Rattle.records.proofs.PasteLaws.{from_length, from_get, unless_length, unless_get, tidied_parts, tidied_right, tidied_parts_lem}
+use Rattle.records.proofs.ClearedLaws.{from_length, from_get, unless_length, unless_get, tidied_parts, tidied_right, tidied_parts_lem}
 
 pub tidied_length : (w : ℕ → ℕ) (at : ℕ) → length (tidied w at) ≡ 39
 tidied_length w at = ap length (sym (tidied_parts_lem w at)) ∙ total_is (tidied_parts w at) (tidied_right w at)

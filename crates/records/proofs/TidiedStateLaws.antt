@@ -11,11 +11,11 @@ use lib.Dec.{eqb, lit<}
 use lib.ListN.{get_or}
 use Rattle.words.specs.Words.{word_at, bytes_of}
 use Rattle.words.proofs.ReadLaws.{read_back}
-use Rattle.area.specs.Frame.{word_no, number_no, flag_no, time_no, pair_no, flags_no, pos2_no, rect_no, maybe_rect_no}
-use Rattle.records.specs.Record.{maybe_target_no, offset_target_no, maybe_press_no, start_offset_no, state_of}
+use Rattle.area.specs.Frame.{word_no, number_no, flag_no, time_no, pair_no, flags_no, pos2_no, rect_no, option_no, maybe_rect_no}
+use Rattle.records.specs.Record.{maybe_target_no, maybe_press_no, state_of}
 use Rattle.records.specs.Tidied.{words_from, words_unless, option_words, tidied}
 use Rattle.records.proofs.ReadLaws.{start, part_at}
-use Rattle.records.proofs.PasteLaws.{tidied_parts}
+use Rattle.records.proofs.ClearedLaws.{tidied_parts}
 use Rattle.records.proofs.TidiedLaws.{tidied_word, part_words}
 
 -- ---- what reads the same
@@ -67,7 +67,7 @@ press_same s t n (inl none) = rw (absent t n none.1, absent s n none.0)
 press_same s t n (inr same) = rw (flag_same s t n (same 0 n (omega arith) (lit< tt)), number_same s t (n + 1) (same 1 (n + 1) refl (lit< tt)))
 
 rect_same : (s t : List ℕ) (n : ℕ) → AgreeOption s t n 5 → maybe_rect_no t n ≡ maybe_rect_no s n
-unfolding maybe_rect_no rect_no pos2_no
+unfolding option_no rect_no pos2_no
 rect_same s t n (inl none) = rw (absent t n none.1, absent s n none.0)
 rect_same s t n (inr same) = rw (
   flag_same s t n (same 0 n (omega arith) (lit< tt)),
@@ -119,7 +119,7 @@ module _ (s t : List ℕ) (tidy : (i : ℕ) → i < 39 → word_at t i ≡ get_o
       go false e = inr (agree p m (λ j below. words j below ∙ ap (λ (b : Bool). cond b 0 (word_at s (p + j))) e))
 
   stands : state_of t ≡ state_of s
-  unfolding state_of offset_target_no start_offset_no
+  unfolding state_of maybe_target_no maybe_press_no
   stands =
       let offsets = plain 0 0 4 refl refl (lit< tt) in
       let middle = plain 3 16 8 refl refl (lit< tt) in

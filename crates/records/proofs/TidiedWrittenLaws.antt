@@ -1,4 +1,8 @@
 -- What the library writes is tidy: tidied it has the same words. Assumes nothing.
+use Rattle.std.specs.Prelude.{Option, Some, None}
+use Rattle.numbers.specs.declared.shape.Rect.{Rect}
+use Rattle.area.specs.declared.state.ScrollingToTarget.{ScrollingToTarget}
+use Rattle.std.specs.Prelude.{Float}
 use mathlib.Core.Path.{◌≡◌, refl, sym, ap, ◌∙◌}
 use mathlib.Core.Bool.{Bool}
 use mathlib.Core.List.{List, [], ◌∷◌, ◌++◌}
@@ -13,18 +17,13 @@ use Rattle.area.specs.Pair.{flag}
 use Rattle.area.specs.State.{no_target, no_press}
 use Rattle.area.specs.Frame.{word_no, time_words}
 use Rattle.area.specs.declared.state.State.{State}
-use Rattle.area.specs.declared.state.MaybeTarget.{MaybeTarget}
-use Rattle.area.specs.declared.state.OffsetTarget.{OffsetTarget}
-use Rattle.area.specs.declared.state.MaybePress.{MaybePress}
-use Rattle.area.specs.declared.state.StartOffset.{StartOffset}
-use Rattle.area.specs.declared.state.MaybeRect.{MaybeRect}
 use Rattle.area.proofs.TimeLaws.{low_small, high_small}
 use Rattle.records.specs.Record.{number_word, number_words, flag_words, target_words, press_words, rect_words, maybe_rect_words, state_words, record_of}
 use Rattle.records.specs.Held.{Is64, ArePair, IsTarget, AreTargets, IsPress, ArePresses, IsRect, IsHeld}
 use Rattle.records.specs.Tidied.{words_from, words_unless, option_words, tidied, TidiedHolds}
 use Rattle.records.proofs.ReadLaws.{Reads}
 use Rattle.records.proofs.BackLaws.{number_small, flag_small, part}
-use Rattle.records.proofs.PasteLaws.{from_length, from_get}
+use Rattle.records.proofs.ClearedLaws.{from_length, from_get}
 use Rattle.records.proofs.TidiedStateLaws.{tidied_reads}
 
 -- ---- each written word is below 2 ^ 32
@@ -78,44 +77,44 @@ present b p m ws long fits read =
     ap (λ (x : ℕ). words_unless (eqb x 0) (word_at b) p m) (flag_word b p 1 ws (lit< tt) read)
     ∙ plain b p m (1 ∷ ws) long (lit< tt, fits) read
 
-target_tidy : (b : List ℕ) (p : ℕ) (t : MaybeTarget) → IsTarget t → Reads b (p + 1) (target_words t) → option_words (word_at b) p 6 ≡ target_words t
-target_tidy b p MaybeTarget.Nothing held read = absent b p 6 (0 ∷ 0 ∷ 0 ∷ 0 ∷ 0 ∷ []) read
-target_tidy b p (MaybeTarget.Toward t) held read =
+target_tidy : (b : List ℕ) (p : ℕ) (t : Option ScrollingToTarget) → IsTarget t → Reads b (p + 1) (target_words t) → option_words (word_at b) p 6 ≡ target_words t
+target_tidy b p None held read = absent b p 6 (0 ∷ 0 ∷ 0 ∷ 0 ∷ 0 ∷ []) read
+target_tidy b p (Some t) held read =
     present b p 6 (time_words t.start ++ (time_words t.end ++ (number_word t.target_offset ∷ []))) refl
     (fit_time t.start (time_words t.end ++ (number_word t.target_offset ∷ [])) held.0
     (fit_time t.end (number_word t.target_offset ∷ []) held.1 (number_small t.target_offset held.2, tt)))
     read
 
-press_tidy : (b : List ℕ) (p : ℕ) (x : MaybePress) → IsPress x → Reads b (p + 1) (press_words x) → option_words (word_at b) p 2 ≡ press_words x
-press_tidy b p MaybePress.Nothing held read = absent b p 2 (0 ∷ []) read
-press_tidy b p (MaybePress.At x) held read = present b p 2 (number_word x ∷ []) refl (number_small x held, tt) read
+press_tidy : (b : List ℕ) (p : ℕ) (x : Option Float) → IsPress x → Reads b (p + 1) (press_words x) → option_words (word_at b) p 2 ≡ press_words x
+press_tidy b p None held read = absent b p 2 (0 ∷ []) read
+press_tidy b p (Some x) held read = present b p 2 (number_word x ∷ []) refl (number_small x held, tt) read
 
-rect_tidy : (b : List ℕ) (p : ℕ) (r : MaybeRect) → IsRect r → Reads b (p + 1) (maybe_rect_words r) → option_words (word_at b) p 5 ≡ maybe_rect_words r
-rect_tidy b p MaybeRect.Nothing held read = absent b p 5 (0 ∷ 0 ∷ 0 ∷ 0 ∷ []) read
-rect_tidy b p (MaybeRect.Some r) held read =
+rect_tidy : (b : List ℕ) (p : ℕ) (r : Option Rect) → IsRect r → Reads b (p + 1) (maybe_rect_words r) → option_words (word_at b) p 5 ≡ maybe_rect_words r
+rect_tidy b p None held read = absent b p 5 (0 ∷ 0 ∷ 0 ∷ 0 ∷ []) read
+rect_tidy b p (Some r) held read =
     present b p 5 (rect_words r) refl
     (number_small r.min.x held.0, (number_small r.min.y held.1, (number_small r.max.x held.2, (number_small r.max.y held.3, tt))))
     read
 
-first_target : (v : List OffsetTarget) → AreTargets v → IsTarget (get_or v 0 no_target).target
+first_target : (v : List (Option ScrollingToTarget)) → AreTargets v → IsTarget (get_or v 0 no_target)
 first_target [] held = absurd held
 first_target (t ∷ []) held = absurd held
 first_target (t ∷ u ∷ []) held = held.0
 first_target (t ∷ u ∷ w ∷ v) held = absurd held
 
-second_target : (v : List OffsetTarget) → AreTargets v → IsTarget (get_or v 1 no_target).target
+second_target : (v : List (Option ScrollingToTarget)) → AreTargets v → IsTarget (get_or v 1 no_target)
 second_target [] held = absurd held
 second_target (t ∷ []) held = absurd held
 second_target (t ∷ u ∷ []) held = held.1
 second_target (t ∷ u ∷ w ∷ v) held = absurd held
 
-first_press : (v : List StartOffset) → ArePresses v → IsPress (get_or v 0 no_press).press
+first_press : (v : List (Option Float)) → ArePresses v → IsPress (get_or v 0 no_press)
 first_press [] held = absurd held
 first_press (p ∷ []) held = absurd held
 first_press (p ∷ q ∷ []) held = held.0
 first_press (p ∷ q ∷ r ∷ v) held = absurd held
 
-second_press : (v : List StartOffset) → ArePresses v → IsPress (get_or v 1 no_press).press
+second_press : (v : List (Option Float)) → ArePresses v → IsPress (get_or v 1 no_press)
 second_press [] held = absurd held
 second_press (p ∷ []) held = absurd held
 second_press (p ∷ q ∷ []) held = held.1
@@ -148,15 +147,15 @@ tidied_written s held =
     ∙ rw (
       plain b 0 2 (number_words s.offset) refl (fit_numbers s.offset held.offset) (part s 0),
       plain b 2 2 (number_words s.max_offset) refl (fit_numbers s.max_offset held.max_offset) (part s 1),
-      target_tidy b 4 (get_or s.offset_target 0 no_target).target (first_target s.offset_target held.offset_target) (part s 2),
-      target_tidy b 10 (get_or s.offset_target 1 no_target).target (second_target s.offset_target held.offset_target) (part s 3),
+      target_tidy b 4 (get_or s.offset_target 0 no_target) (first_target s.offset_target held.offset_target) (part s 2),
+      target_tidy b 10 (get_or s.offset_target 1 no_target) (second_target s.offset_target held.offset_target) (part s 3),
       plain b 16 2 (flag_words s.show_scroll) refl (fit_flags s.show_scroll) (part s 4),
       plain b 18 2 (flag_words s.content_is_too_large) refl (fit_flags s.content_is_too_large) (part s 5),
       plain b 20 2 (flag_words s.scroll_bar_interaction) refl (fit_flags s.scroll_bar_interaction) (part s 6),
       plain b 22 2 (number_words s.vel) refl (fit_numbers s.vel held.vel) (part s 7),
-      press_tidy b 24 (get_or s.scroll_start_offset_from_top_left 0 no_press).press
+      press_tidy b 24 (get_or s.scroll_start_offset_from_top_left 0 no_press)
           (first_press s.scroll_start_offset_from_top_left held.scroll_start_offset_from_top_left) (part s 8),
-      press_tidy b 26 (get_or s.scroll_start_offset_from_top_left 1 no_press).press
+      press_tidy b 26 (get_or s.scroll_start_offset_from_top_left 1 no_press)
           (second_press s.scroll_start_offset_from_top_left held.scroll_start_offset_from_top_left) (part s 9),
       plain b 28 2 (flag_words s.scroll_stuck_to_end) refl (fit_flags s.scroll_stuck_to_end) (part s 10),
       rect_tidy b 30 s.interact_rect held.interact_rect (part s 11),

@@ -1,13 +1,11 @@
 -- What holds of every state in the code: each pair is two, and each number is one that its format holds.
+use Rattle.std.specs.Prelude.{Option, Some, None}
+use Rattle.numbers.specs.declared.shape.Rect.{Rect}
+use Rattle.area.specs.declared.state.ScrollingToTarget.{ScrollingToTarget}
 use Rattle.std.specs.Prelude.{Bool, List, [], ◌∷◌, T, Float}
 use Rattle.std.specs.Float.{binary32, binary64}
 use Rattle.std.specs.Float.Ieee.{fits}
 use Rattle.area.specs.declared.state.State.{State}
-use Rattle.area.specs.declared.state.MaybeTarget.{MaybeTarget}
-use Rattle.area.specs.declared.state.OffsetTarget.{OffsetTarget}
-use Rattle.area.specs.declared.state.MaybePress.{MaybePress}
-use Rattle.area.specs.declared.state.StartOffset.{StartOffset}
-use Rattle.area.specs.declared.state.MaybeRect.{MaybeRect}
 
 abbrev pub Is32 : Float → Type 0
 Is32 x = T (fits binary32 x)
@@ -27,29 +25,29 @@ AreFlags (a ∷ []) = ⊥
 AreFlags (a ∷ b ∷ []) = Unit {0}
 AreFlags (a ∷ b ∷ c ∷ v) = ⊥
 
-abbrev pub IsTarget : MaybeTarget → Type 0
-IsTarget MaybeTarget.Nothing = Unit {0}
-IsTarget (MaybeTarget.Toward t) = Is64 t.start × Is64 t.end × Is32 t.target_offset
+abbrev pub IsTarget : Option ScrollingToTarget → Type 0
+IsTarget None = Unit {0}
+IsTarget (Some t) = Is64 t.start × Is64 t.end × Is32 t.target_offset
 
-abbrev pub AreTargets : List OffsetTarget → Type 0
+abbrev pub AreTargets : List (Option ScrollingToTarget) → Type 0
 AreTargets [] = ⊥
 AreTargets (t ∷ []) = ⊥
-AreTargets (t ∷ u ∷ []) = IsTarget t.target × IsTarget u.target
+AreTargets (t ∷ u ∷ []) = IsTarget t × IsTarget u
 AreTargets (t ∷ u ∷ v ∷ w) = ⊥
 
-abbrev pub IsPress : MaybePress → Type 0
-IsPress MaybePress.Nothing = Unit {0}
-IsPress (MaybePress.At x) = Is32 x
+abbrev pub IsPress : Option Float → Type 0
+IsPress None = Unit {0}
+IsPress (Some x) = Is32 x
 
-abbrev pub ArePresses : List StartOffset → Type 0
+abbrev pub ArePresses : List (Option Float) → Type 0
 ArePresses [] = ⊥
 ArePresses (p ∷ []) = ⊥
-ArePresses (p ∷ q ∷ []) = IsPress p.press × IsPress q.press
+ArePresses (p ∷ q ∷ []) = IsPress p × IsPress q
 ArePresses (p ∷ q ∷ r ∷ v) = ⊥
 
-abbrev pub IsRect : MaybeRect → Type 0
-IsRect MaybeRect.Nothing = Unit {0}
-IsRect (MaybeRect.Some r) = Is32 r.min.x × Is32 r.min.y × Is32 r.max.x × Is32 r.max.y
+abbrev pub IsRect : Option Rect → Type 0
+IsRect None = Unit {0}
+IsRect (Some r) = Is32 r.min.x × Is32 r.min.y × Is32 r.max.x × Is32 r.max.y
 
 pub record IsHeld (s : State) : Type 0 where
   pub offset : ArePair s.offset

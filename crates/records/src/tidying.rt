@@ -1,51 +1,41 @@
 // The words of a record with absent options as zeros.
-ghost use Rattle.std.specs.Prelude.{◌≡◌, cond, ◌+◌, ◌*◌, ◌<◌, ◌≤◌, length};
-ghost use Rattle.std.proofs.Math.Seq.{paste};
+ghost use Rattle.std.specs.Prelude.{◌≡◌, ◌==◌, if◌then◌else◌, ◌+◌, ◌*◌, ◌<◌, ◌≤◌, length, replicate, slice_index};
 ghost use Rattle.words.specs.Words.{word_at};
 ghost use Rattle.records.specs.Record.{HasRecord};
 ghost use Rattle.records.specs.Tidied as Spec;
 
-// The record begins at word at.
+/// The record begins at word at.
 pub fn tidied(s: &[u8], at: u32) -> [u32; 39]
     requires { HasRecord s.now at }
     ensures answers { result ≡ Spec.tidied (word_at s.now) at }
     ensures holds { Spec.TidiedHolds }
 {
-    let mut out: [u32; 39] = [0; 39];
-    copy(s, at, 4, false, &mut out, 0);
-    copy_option(s, at + 4, 6, &mut out, 4);
-    copy_option(s, at + 10, 6, &mut out, 10);
-    copy(s, at + 16, 8, false, &mut out, 16);
-    copy_option(s, at + 24, 2, &mut out, 24);
-    copy_option(s, at + 26, 2, &mut out, 26);
-    copy(s, at + 28, 2, false, &mut out, 28);
-    copy_option(s, at + 30, 5, &mut out, 30);
-    copy(s, at + 35, 4, false, &mut out, 35);
-    out
+    let mut words = [0; 39];
+    copy(s, at, &mut words);
+    clear_absent(&mut words[4..10]);
+    clear_absent(&mut words[10..16]);
+    clear_absent(&mut words[24..26]);
+    clear_absent(&mut words[26..28]);
+    clear_absent(&mut words[30..35]);
+    words
 }
 
-// An option of m words from word i on, put at place k.
-fn copy_option(s: &[u8], i: u32, m: u32, out: &mut [u32], k: u32)
-    requires { (4 * i + 4 * m ≤ length s.now) × (i < 1073741800) × (0 < m) × (k + m ≤ length out.old) × (k + m < 100) }
-    ensures { out.new ≡ paste out.old k (Spec.option_words (word_at s.now) i m) m }
+/// The words from word at on.
+fn copy(s: &[u8], at: u32, words: &mut [u32])
+    requires { (4 * at + 4 * length words.old ≤ length s.now) × (at + length words.old < 1073741824) }
+    ensures { words.new ≡ Spec.words_from (word_at s.now) at (length words.old) }
 {
-    let absent = words::word_in(s, i) == 0;
-    copy(s, i, m, absent, out, k);
-}
-
-fn copy(s: &[u8], i: u32, m: u32, absent: bool, out: &mut [u32], k: u32)
-    requires { (4 * i + 4 * m ≤ length s.now) × (i < 1073741800) × (k + m ≤ length out.old) × (k + m < 100) }
-    ensures { out.new ≡ paste out.old k (Spec.words_unless absent (word_at s.now) i m) m }
-{
-    let mut j: u32 = 0;
-    while j < m {
-        out[(k + j) as usize] = unless(absent, words::word_in(s, i + j));
-        j += 1;
+    for (i, word) in words.iter_mut().enumerate() {
+        *word = words::word_in(s, at + i as u32);
     }
 }
 
-fn unless(absent: bool, word: u32) -> u32
-    ensures { result ≡ cond absent 0 word }
+/// An option whose flag, its first word, is 0 has zeros for its words.
+fn clear_absent(option: &mut [u32])
+    requires { 0 < length option.old }
+    ensures { option.new ≡ if slice_index option.old 0 == 0 then replicate (length option.old) 0 else option.old }
 {
-    if absent { 0 } else { word }
+    if option[0] == 0 {
+        option.fill(0);
+    }
 }

@@ -1,159 +1,185 @@
-// A state, and what a frame puts out besides it, written into bytes. An absent option is zeros.
-ghost use Rattle.std.specs.Prelude.{◌≡◌, ◌+◌, ◌*◌, ◌≤◌, length};
+// A state, and what a frame puts out besides it, written into bytes.
+ghost use Rattle.std.specs.Prelude.{◌≡◌, ℕ, ◌+◌, ◌*◌, ◌≤◌, List, [], ◌∷◌, ◌++◌, length, slice_index_or, refl};
+ghost use Rattle.std.proofs.Common.{rules};
 ghost use Rattle.words.specs.Words.{bytes_of, put_at};
+ghost use Rattle.area.specs.Frame.{time_words};
+ghost use Rattle.area.specs.Outcome.{outcome_in};
 ghost use Rattle.records.specs.Record as Spec;
 
-use area::{
-    MaybePress, MaybeRect, MaybeTarget, OffsetTarget, Outcome, StartOffset, State, put_time,
-};
-use numbers::{Rect, bits_of_f32, bits_of_f64};
+use area::{Outputs, ScrollingToTarget, State, put_time};
+use numbers::{Ieee, Rect};
 
+// What is written as words, always as many of them.
+pub trait ToWords: Copy {
+    const COUNT: usize;
+
+    ghost COUNT: { ℕ };
+
+    ghost words: { Self → List ℕ };
+
+    // From word `at` on, counted from 0; the rest stays.
+    fn put(self, bytes: &mut [u8], at: usize)
+        requires { 4 * at + 4 * COUNT ≤ length bytes.old }
+        ensures { bytes.new ≡ put_at at (words self) bytes.old };
+
+    ghost counted: { (value : Self) → length (words value) ≡ COUNT };
+}
+
+impl ToWords for bool {
+    const COUNT: usize = 1;
+
+    ghost COUNT = { 1 };
+
+    ghost words = { λ flag. Spec.flag_word flag ∷ [] };
+
+    ghost counted = { λ flag. refl };
+
+    fn put(self, bytes: &mut [u8], at: usize) {
+        words::put(bytes, at, &[u32::from(self)]);
+    }
+}
+
+impl ToWords for f32 {
+    const COUNT: usize = 1;
+
+    ghost COUNT = { 1 };
+
+    ghost words = { λ x. Spec.number_word x ∷ [] };
+
+    ghost counted = { λ x. refl };
+
+    fn put(self, bytes: &mut [u8], at: usize) {
+        words::put(bytes, at, &[self.bits()]);
+    }
+}
+
+// The low word first.
+impl ToWords for f64 {
+    const COUNT: usize = 2;
+
+    ghost COUNT = { 2 };
+
+    ghost words = { time_words };
+
+    ghost counted = { λ t. refl };
+
+    fn put(self, bytes: &mut [u8], at: usize) {
+        put_time(bytes, at, self);
+    }
+}
+
+impl ToWords for Rect {
+    const COUNT: usize = 4;
+
+    ghost COUNT = { 4 };
+
+    ghost words = { Spec.rect_words };
+
+    ghost counted = { λ r. refl };
+
+    fn put(self, bytes: &mut [u8], at: usize) {
+        let Rect { min, max } = self;
+        words::put(
+            bytes,
+            at,
+            &[min.x.bits(), min.y.bits(), max.x.bits(), max.y.bits()],
+        );
+    }
+}
+
+impl ToWords for ScrollingToTarget {
+    const COUNT: usize = 5;
+
+    ghost COUNT = { 5 };
+
+    ghost words = { Spec.span_words };
+
+    ghost counted = { λ t. refl };
+
+    #[tactic(auto, using(crate::proofs::PartLaws::put_twice))]
+    fn put(self, bytes: &mut [u8], at: usize) {
+        self.start.put(bytes, at);
+        self.end.put(bytes, at + 2);
+        self.target_offset.put(bytes, at + 4);
+    }
+}
+
+// What an option may hold: few words, so that one more for the flag is still counted.
+pub trait Optional: ToWords {
+    ghost few: { Self.COUNT ≤ 5 };
+}
+
+impl Optional for f32 {
+    ghost few = { Prim.search rules };
+}
+
+impl Optional for Rect {
+    ghost few = { Prim.search rules };
+}
+
+impl Optional for ScrollingToTarget {
+    ghost few = { Prim.search rules };
+}
+
+// A flag, then the words; zeros where there is none.
+impl<T: Optional> ToWords for Option<T> {
+    const COUNT: usize = T::COUNT + 1;
+
+    ghost COUNT = { T.COUNT + 1 };
+
+    ghost words = { Spec.option_words T.COUNT T.words };
+
+    ghost counted = { Spec.option_counted T.COUNT T.words T.counted };
+
+    fn put(self, bytes: &mut [u8], at: usize) {
+        match self {
+            None => bytes[4 * at..4 * (at + Self::COUNT)].fill(0),
+            Some(value) => {
+                words::put(bytes, at, &[1]);
+                value.put(bytes, at + 1);
+            }
+        }
+    }
+}
+
+// Of both axes, x first.
+#[tactic(auto, using(crate::proofs::PartLaws::put_twice))]
+pub fn put_pair<T: ToWords>(bytes: &mut [u8], at: usize, pair: [T; 2])
+    requires { 4 * at + 8 * T.COUNT ≤ length bytes.old }
+    ensures { (otherwise : _) → bytes.new
+        ≡ put_at at (T.words (slice_index_or pair 0 otherwise) ++ T.words (slice_index_or pair 1 otherwise)) bytes.old }
+{
+    let [x, y] = pair;
+    x.put(bytes, at);
+    y.put(bytes, at + T::COUNT);
+}
+
+// Stays: into the caller's bytes, here and in put_outcome. An array handed back would be copied there.
 pub fn put_state(bytes: &mut [u8; 156], s: State)
     ensures { bytes.new ≡ Spec.record_of s }
 {
-    let offset = s.offset;
-    put_numbers(bytes, 0, offset);
-    let max_offset = s.max_offset;
-    put_numbers(bytes, 2, max_offset);
-    let targets = s.offset_target;
-    put_target(bytes, 4, targets[0]);
-    put_target(bytes, 10, targets[1]);
-    let shown = s.show_scroll;
-    put_flags(bytes, 16, shown);
-    let too_large = s.content_is_too_large;
-    put_flags(bytes, 18, too_large);
-    let interaction = s.scroll_bar_interaction;
-    put_flags(bytes, 20, interaction);
-    let vel = s.vel;
-    put_numbers(bytes, 22, vel);
-    let presses = s.scroll_start_offset_from_top_left;
-    put_press(bytes, 24, presses[0]);
-    put_press(bytes, 26, presses[1]);
-    let stuck = s.scroll_stuck_to_end;
-    put_flags(bytes, 28, stuck);
-    let rect = s.interact_rect;
-    put_maybe_rect(bytes, 30, rect);
-    let bounced = s.bounced_this_momentum;
-    put_flags(bytes, 35, bounced);
-    put_time(bytes, 37, s.remembered_time);
+    put_pair(bytes, 0, s.offset);
+    put_pair(bytes, 2, s.max_offset);
+    put_pair(bytes, 4, s.offset_target);
+    put_pair(bytes, 16, s.show_scroll);
+    put_pair(bytes, 18, s.content_is_too_large);
+    put_pair(bytes, 20, s.scroll_bar_interaction);
+    put_pair(bytes, 22, s.vel);
+    put_pair(bytes, 24, s.scroll_start_offset_from_top_left);
+    put_pair(bytes, 28, s.scroll_stuck_to_end);
+    s.interact_rect.put(bytes, 30);
+    put_pair(bytes, 35, s.bounced_this_momentum);
+    s.remembered_time.put(bytes, 37);
 }
 
-pub fn put_outcome(bytes: &mut [u8; 100], o: Outcome)
-    ensures { bytes.new ≡ bytes_of (Spec.out_words o) }
+pub fn put_outcome(bytes: &mut [u8; 100], o: Outputs)
+    ensures { bytes.new ≡ bytes_of (Spec.out_words (outcome_in o)) }
 {
-    let size = o.content_size;
-    put_numbers(bytes, 0, size);
-    put_rect(bytes, 2, o.inner_rect);
-    put_rect(bytes, 6, o.viewport);
-    let handles = o.handles;
-    let first = handles[0];
-    let rect = first.rect;
-    put_maybe_rect(bytes, 10, rect);
-    let second = handles[1];
-    let rect = second.rect;
-    put_maybe_rect(bytes, 15, rect);
-    let wheel = o.wheel_delta_left;
-    put_numbers(bytes, 20, wheel);
-    let scroll = o.scroll_delta_left;
-    put_numbers(bytes, 22, scroll);
-    words::put(bytes, 24, &[flag_word(o.repaint)]);
-}
-
-pub fn put_numbers(bytes: &mut [u8], at: usize, v: [f32; 2])
-    requires { 4 * at + 8 ≤ length bytes.old }
-    ensures { bytes.new ≡ put_at at (Spec.number_words v) bytes.old }
-{
-    words::put(bytes, at, &[bits_of_f32(v[0]), bits_of_f32(v[1])]);
-}
-
-fn put_flags(bytes: &mut [u8], at: usize, v: [bool; 2])
-    requires { 4 * at + 8 ≤ length bytes.old }
-    ensures { bytes.new ≡ put_at at (Spec.flag_words v) bytes.old }
-{
-    words::put(bytes, at, &[flag_word(v[0]), flag_word(v[1])]);
-}
-
-fn put_target(bytes: &mut [u8], at: usize, t: OffsetTarget)
-    requires { 4 * at + 24 ≤ length bytes.old }
-    ensures { bytes.new ≡ put_at at (Spec.target_words t.target) bytes.old }
-{
-    let target = t.target;
-    words::put(bytes, at, &target_words(target));
-}
-
-fn put_press(bytes: &mut [u8], at: usize, s: StartOffset)
-    requires { 4 * at + 8 ≤ length bytes.old }
-    ensures { bytes.new ≡ put_at at (Spec.press_words s.press) bytes.old }
-{
-    let press = s.press;
-    words::put(bytes, at, &press_words(press));
-}
-
-fn put_rect(bytes: &mut [u8], at: usize, r: Rect)
-    requires { 4 * at + 16 ≤ length bytes.old }
-    ensures { bytes.new ≡ put_at at (Spec.rect_words r) bytes.old }
-{
-    words::put(
-        bytes,
-        at,
-        &[
-            bits_of_f32(r.min.x),
-            bits_of_f32(r.min.y),
-            bits_of_f32(r.max.x),
-            bits_of_f32(r.max.y),
-        ],
-    );
-}
-
-fn put_maybe_rect(bytes: &mut [u8], at: usize, r: MaybeRect)
-    requires { 4 * at + 20 ≤ length bytes.old }
-    ensures { bytes.new ≡ put_at at (Spec.maybe_rect_words r) bytes.old }
-{
-    words::put(bytes, at, &maybe_rect_words(r));
-}
-
-pub fn flag_word(b: bool) -> u32
-    ensures { result ≡ Spec.flag_word b }
-{
-    if b { 1 } else { 0 }
-}
-
-fn target_words(target: MaybeTarget) -> [u32; 6]
-    ensures { result ≡ Spec.target_words target }
-{
-    match target {
-        MaybeTarget::Nothing => [0, 0, 0, 0, 0, 0],
-        MaybeTarget::Toward(t) => {
-            let start = words::long_words(bits_of_f64(t.start));
-            let end = words::long_words(bits_of_f64(t.end));
-            let goal = bits_of_f32(t.target_offset);
-            [1, start[0], start[1], end[0], end[1], goal]
-        }
-    }
-}
-
-fn press_words(press: MaybePress) -> [u32; 2]
-    ensures { result ≡ Spec.press_words press }
-{
-    match press {
-        MaybePress::Nothing => [0, 0],
-        MaybePress::At(x) => [1, bits_of_f32(x)],
-    }
-}
-
-fn maybe_rect_words(r: MaybeRect) -> [u32; 5]
-    ensures { result ≡ Spec.maybe_rect_words r }
-{
-    match r {
-        MaybeRect::Nothing => [0, 0, 0, 0, 0],
-        MaybeRect::Some(r) => {
-            [
-                1,
-                bits_of_f32(r.min.x),
-                bits_of_f32(r.min.y),
-                bits_of_f32(r.max.x),
-                bits_of_f32(r.max.y),
-            ]
-        }
-    }
+    put_pair(bytes, 0, o.content_size);
+    o.inner_rect.put(bytes, 2);
+    o.viewport.put(bytes, 6);
+    put_pair(bytes, 10, o.handles);
+    put_pair(bytes, 20, o.wheel_delta_left);
+    put_pair(bytes, 22, o.scroll_delta_left);
+    o.repaint.put(bytes, 24);
 }

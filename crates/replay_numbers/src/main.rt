@@ -1,52 +1,41 @@
 // Runs stored calls of the numbers and prints each with its answer. A call on standard input is nine
-// words: its number, as in `name`, and eight operands; an f64 is two of them, the high one first.
+// words: its number, as in `call`, and eight operands; an f64 is two of them, the high one first.
 // What is printed is held to the answers of an independent program (oracle/).
 #![tactic(auto)]
 
 mod answer;
-mod line;
+mod call;
 
-use answer::answer_of;
-use line::print_call;
+use call::Call;
+use listing::Words;
+use std::alloc::Global;
 use std::io;
 use std::io::{LineWriter, Read, Write};
+use streams::{NoRecord, Record, Records, read_word, read_words};
 
-// Runs one call, and says whether there was one.
-fn replay_one<R: Read, W: Write>(input: &mut R, out: &mut W) -> io::Result<bool> {
-    let mut record = [0u8; 36];
-    if streams::read_full(input, &mut record)? < 36 {
-        return Ok(false);
+#[derive(Clone, Copy)]
+struct Stored {
+    call: Call,
+    operands: [u32; 8],
+}
+
+impl Record for Stored {
+    fn read<R: Read>(input: &mut R, _alloc: Global) -> Result<Self, NoRecord> {
+        Ok(Stored {
+            call: Call::from(read_word(input)?),
+            operands: read_words(input)?,
+        })
     }
-    let call = words::word(&record, 0);
-    let operands = operands_of(&record);
-    print_call(out, call, operands, answer_of(call, operands))?;
-    Ok(true)
 }
 
-fn operands_of(record: &[u8]) -> [u32; 8] {
-    [
-        words::word(record, 1),
-        words::word(record, 2),
-        words::word(record, 3),
-        words::word(record, 4),
-        words::word(record, 5),
-        words::word(record, 6),
-        words::word(record, 7),
-        words::word(record, 8),
-    ]
-}
-
-// A proved loop has to end, and nothing says that the input does: it has more turns than any run takes.
-fn replay_all<R: Read, W: Write>(input: &mut R, out: &mut W) -> io::Result<()> {
-    for _ in 0..u64::MAX {
-        if !replay_one(input, out)? {
-            break;
-        }
-    }
-    Ok(())
-}
-
+// The call's name, its operands, and after "=" its answer.
 fn main(rt: HostRuntime) -> io::Result<()> {
     let mut out = LineWriter::new(rt.alloc(), io::writer(&rt))?;
-    replay_all(&mut rt.reader(), &mut out)
+    for stored in Records::<_, Stored>::new(rt.reader(), rt.alloc()) {
+        let Stored { call, operands } = stored?;
+        let answer = call.answer(operands);
+        let taken = Words(&operands[..call.operand_count()]);
+        writeln!(out, "{call}{taken} ={answer}")?;
+    }
+    Ok(())
 }

@@ -1,22 +1,43 @@
-// The parts of a line: words as their digits, counts and refusals in decimal, each behind a space.
-use std::io;
-use std::io::Write;
+// The line of a call: its name, counts and refusals in decimal, and of a run the word of the buffer for the frames used; then
+// the words of the record after the call.
+use listing::ByteWords;
+use std::fmt;
 
-pub fn print<W: Write>(out: &mut W, text: &[u8]) -> io::Result<()> {
-    out.write_all(text)
+// Stays: the refusal as the number that the line shows, 0 for none. An Option would be turned into it where it is written, and nowhere else read.
+#[derive(Clone, Copy)]
+pub enum Line {
+    // The runs under the table show what a load left there.
+    Load {
+        count: usize,
+        refusal: u32,
+    },
+    Run {
+        refusal: u32,
+        used: [u8; 4],
+        record: [u8; 156],
+    },
+    Fresh([u8; 156]),
+    Frame {
+        refusal: u32,
+        record: [u8; 156],
+    },
+    Reset([u8; 156]),
+    Given([u8; 156]),
 }
 
-pub fn print_decimal<W: Write>(out: &mut W, n: u64) -> io::Result<()> {
-    write!(out, " {n}")
-}
-
-pub fn print_words<W: Write>(out: &mut W, record: &[u8], count: u32) -> io::Result<()> {
-    for i in 0..count {
-        print_word(out, words::word(record, i))?;
+impl fmt::Display for Line {
+    fn fmt<W: fmt::Write>(&self, f: &mut fmt::Formatter<W>) -> fmt::Result {
+        match self {
+            Line::Load { count, refusal } => write!(f, "load {count} {refusal}"),
+            Line::Run {
+                refusal,
+                used,
+                record,
+            } => write!(f, "run {refusal}{}{}", ByteWords(used), ByteWords(record)),
+            Line::Fresh(record) => write!(f, "fresh{}", ByteWords(record)),
+            Line::Frame { refusal, record } => { write!(f, "frame {refusal}{}", ByteWords(record)) }
+            Line::Reset(record) => write!(f, "reset{}", ByteWords(record)),
+            Line::Given(record) => write!(f, "given{}", ByteWords(record)),
+        }
     }
-    Ok(())
-}
-
-fn print_word<W: Write>(out: &mut W, word: u32) -> io::Result<()> {
-    write!(out, " {word:08x}")
 }

@@ -7,9 +7,8 @@ use native.Mathlib.Nat.{add-zero, zero-add, add-suc, suc-add, mod-eq_of_lt}
 use native.Mathlib.Omega.{arith}
 use lib.Dec.{eqb}
 use lib.ListN.{length, set, replicate}
-use Rattle.area.specs.declared.sweep.Swept.{Swept}
 use Rattle.area.specs.Checks.{any_shows, lowest_where}
-use Rattle.area.specs.Sweep.{lowest_of, words_up_to, swept_of}
+use Rattle.area.specs.Sweep.{Swept, lowest_of, words_up_to, swept_of}
 use Rattle.sweep.specs.Line.{digit_after, digits_from}
 
 -- ---- one digit

@@ -1,16 +1,16 @@
 // A frame's line: the number kept after each of its words.
 ghost use Rattle.std.specs.Prelude.{◌≡◌, ◌<◌};
+ghost use Rattle.area.specs.Sweep.{swept_of};
 ghost use Rattle.sweep.specs.Line as Spec;
 
+// Stays: bytes. A line is 105 bytes and is proved as such.
 pub fn line_of(frame: &[u8]) -> [u8; 105]
     ensures { result ≡ Spec.line_of frame.now }
 {
     // The last byte stays a line feed.
-    let mut line = [10u8; 105];
-    let mut n: usize = 0;
-    while n < 104 {
+    let mut line = [b'\n'; 105];
+    for n in 0..104 {
         line[n] = digit_after(frame, n + 1);
-        n += 1;
     }
     line
 }
@@ -20,6 +20,15 @@ fn digit_after(frame: &[u8], n: usize) -> u8
     requires { n < 105 }
     ensures { result ≡ Spec.digit_after frame.now n }
 {
-    let swept = area::sweep_words(frame, n as u32);
-    48 + (swept.kept % 8) as u8
+    b'0' + (number_after(frame, n as u32) % 8) as u8
+}
+
+// The number kept after n words, or 0.
+fn number_after(frame: &[u8], n: u32) -> u32
+    ensures { result ≡ (swept_of frame.now n).kept }
+{
+    match area::sweep_words(frame, n).kept {
+        None => 0,
+        Some(refusal) => u32::from(refusal),
+    }
 }

@@ -2,56 +2,61 @@
 // taken and what they leave is found by running axis::call::wheel on every turn of the grid that belongs to the row.
 #![tactic(auto)]
 
-mod cells;
 mod counts;
 mod grid;
+mod kept;
 mod places;
 mod ran;
 mod rows;
 
-use cells::{
-    print, print_by, print_can_move, print_leaves, print_rubber_band, print_sources, print_taken,
-    print_wanted,
-};
-use counts::print_counts;
-use ran::kept_over;
-use rows::{ROWS, Row, row_at};
-use std::io;
+use counts::Counts;
+use grid::grid;
+use kept::Kept;
+use ran::Ran;
+use rows::{ROWS, Row};
 use std::io::{LineWriter, Write};
+use std::{fmt, io};
 
-fn print_row<W: Write>(out: &mut W, row: Row) -> io::Result<()> {
-    let kept = kept_over(row);
-    let Row(sources, rubber_band, can_move, outside, parent, bounced, by) = row;
-    print_sources(out, sources)?;
-    print_rubber_band(out, rubber_band)?;
-    print_can_move(out, can_move)?;
-    print_wanted(out, outside, 7)?;
-    print_wanted(out, parent, 6)?;
-    print_wanted(out, bounced, 7)?;
-    print_taken(out, kept)?;
-    print_leaves(out, kept)?;
-    print_by(out, by)?;
-    print(out, b"|\n")
+// A row with what its turns leave, each cell as wide as its column.
+// Stays: a cell by name() and no Display. A &str is padded to its column.
+#[derive(Drop)]
+struct Line<'a> {
+    row: &'a Row,
+    kept: Option<Kept>,
 }
 
-fn print_rows<W: Write>(out: &mut W) -> io::Result<()> {
-    for number in 0..ROWS {
-        print_row(out, row_at(number))?;
+impl fmt::Display for Line<'_> {
+    fn fmt<W: fmt::Write>(&self, f: &mut fmt::Formatter<W>) -> fmt::Result {
+        let row = self.row;
+        let sources = row.sources.name();
+        let rubber_band = row.rubber_band.name_of("on", "off");
+        let can_move = row.can_move.name();
+        write!(f, "| {sources:9} | {rubber_band:11} | {can_move:8} ")?;
+        let outside = row.outside.name_of("yes", "no");
+        let parent = row.parent.name_of("yes", "no");
+        let bounced = row.bounced.name_of("yes", "no");
+        write!(f, "| {outside:7} | {parent:6} | {bounced:7} ")?;
+        let taken = self.kept.map_or("unrun", |kept| kept.taken.name());
+        let leaves = self.kept.map_or("unrun", |kept| kept.leaves.name());
+        let by = row.by.name();
+        write!(f, "| {taken:5} | {leaves:32} | {by:10} |")
     }
-    Ok(())
 }
+
+const HEAD: &str = "\
+| source    | rubber band | can move | outside | parent | bounced | taken | leaves                           | by         |
+|-----------|-------------|----------|---------|--------|---------|-------|----------------------------------|------------|";
 
 fn main(rt: HostRuntime) -> io::Result<()> {
     let mut out = LineWriter::new(rt.alloc(), io::writer(&rt))?;
-    print(
-        &mut out,
-        b"| source    | rubber band | can move | outside | parent | bounced | taken | leaves                           | by         |\n",
-    )?;
-    print(
-        &mut out,
-        b"|-----------|-------------|----------|---------|--------|---------|-------|----------------------------------|------------|\n",
-    )?;
-    print_rows(&mut out)?;
-    print(&mut out, b"\n")?;
-    print_counts(&mut out)
+    let runs: Vec<Ran> = grid(rt.alloc())?
+        .iter()
+        .map(|turn| turn.run())
+        .collect(rt.alloc())?;
+    writeln!(out, "{HEAD}")?;
+    for row in &ROWS {
+        let kept = Kept::over(row, &runs);
+        writeln!(out, "{}", Line { row, kept })?;
+    }
+    writeln!(out, "\n{}", Counts::over(&runs))
 }

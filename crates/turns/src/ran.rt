@@ -1,11 +1,12 @@
-// A turn that was run, and what holds of all the turns that were run for a row.
-use crate::grid::{TURNS, Turn, turn_at};
-use crate::rows::Row;
-use axis::{AxisPhysics, KineticScrollStyle, WheelScroll};
-use numbers::Rangef;
+// A turn that was run.
+use crate::grid::Turn;
+use axis::{AxisPhysics, KineticScrollStyle, WheelScroll, Wheeled};
+use numbers::{Ieee, Rangef};
 
 #[derive(Clone, Copy)]
 pub struct Ran {
+    pub turn: Turn,
+    // Stays: refused beside the rest. A refused turn leaves what was given, and counts in its row as not taken.
     pub refused: bool,
     pub taken: bool,
     pub bounced: bool,
@@ -14,26 +15,32 @@ pub struct Ran {
     pub velocity_as_given: bool,
 }
 
-pub fn run(turn: Turn) -> Ran {
-    let place = turn.place;
-    let offset = place.offset;
-    let source = turn.source;
-    let scroll = WheelScroll {
-        delta: place.delta,
-        source,
-        can_chain_to_parent: turn.parent,
-        dt: turn.dt,
-    };
-    let axis = axis_of(turn.rubber_band);
-    let answer = axis::call::wheel(axis, offset, turn.vel, scroll, turn.bounced);
-    let wheeled = answer.wheeled;
-    Ran {
-        refused: answer.refusal != 0,
-        taken: wheeled.consumed,
-        bounced: wheeled.bounced_this_momentum,
-        offset_as_given: is_same(wheeled.offset, offset),
-        offset_inside: (0.0 <= wheeled.offset) & (wheeled.offset <= 300.0),
-        velocity_as_given: is_same(wheeled.vel, turn.vel),
+impl Turn {
+    pub fn run(self) -> Ran {
+        let offset = self.place.offset;
+        let scroll = WheelScroll {
+            delta: self.place.delta,
+            source: self.source,
+            can_chain_to_parent: self.parent,
+            dt: self.dt,
+        };
+        let axis = axis_of(self.rubber_band);
+        let answer = axis::call::wheel(axis, offset, self.vel, scroll, self.bounced);
+        let wheeled = answer.unwrap_or(Wheeled {
+            offset,
+            vel: self.vel,
+            bounced_this_momentum: self.bounced,
+            consumed: false,
+        });
+        Ran {
+            turn: self,
+            refused: answer.is_err(),
+            taken: wheeled.consumed,
+            bounced: wheeled.bounced_this_momentum,
+            offset_as_given: is_same(wheeled.offset, offset),
+            offset_inside: 0.0 <= wheeled.offset && wheeled.offset <= 300.0,
+            velocity_as_given: is_same(wheeled.vel, self.vel),
+        }
     }
 }
 
@@ -52,52 +59,7 @@ fn axis_of(rubber_band: bool) -> AxisPhysics {
     }
 }
 
-// Bit for bit: 0 and -0 are two.
+// Stays: bit for bit and not ==. 0 and -0 are two.
 fn is_same(x: f32, y: f32) -> bool {
-    numbers::bits_of_f32(x) == numbers::bits_of_f32(y)
-}
-
-#[derive(Clone, Copy)]
-pub struct Kept {
-    pub unrun: bool,
-    pub all_taken: bool,
-    pub none_taken: bool,
-    pub all_as_given: bool,
-    // The offset inside the bounds and the velocity as given.
-    pub all_inside: bool,
-}
-
-pub fn kept_over(row: Row) -> Kept {
-    let mut kept = Kept::nothing();
-    for number in 0..TURNS {
-        kept = kept.after(row, turn_at(number));
-    }
-    kept
-}
-
-impl Kept {
-    fn nothing() -> Self {
-        Self {
-            unrun: true,
-            all_taken: true,
-            none_taken: true,
-            all_as_given: true,
-            all_inside: true,
-        }
-    }
-
-    // A turn of another row is not run.
-    fn after(self, row: Row, turn: Turn) -> Self {
-        if !row.has(turn) {
-            return self;
-        }
-        let ran = run(turn);
-        Self {
-            unrun: false,
-            all_taken: self.all_taken & ran.taken,
-            none_taken: self.none_taken & !ran.taken,
-            all_as_given: self.all_as_given & ran.offset_as_given & ran.velocity_as_given,
-            all_inside: self.all_inside & ran.offset_inside & ran.velocity_as_given,
-        }
-    }
+    x.bits() == y.bits()
 }

@@ -1,11 +1,7 @@
 // The rows of the table: which turns belong to each, and by what it says that they are taken or not.
 use crate::grid::Turn;
 use crate::places::CanMove;
-use Sources::{All, Momentum, Others, Trackpad, Trackpads};
-use Wanted::{Any, No, Yes};
 use axis::WheelSource;
-
-pub const ROWS: usize = 11;
 
 #[derive(Clone, Copy)]
 pub enum Sources {
@@ -19,6 +15,7 @@ pub enum Sources {
 }
 
 // What a row asks of a flag.
+// Stays: an enum of its own. A row would say Some(false) where it wants no.
 #[derive(Clone, Copy)]
 pub enum Wanted {
     Any,
@@ -37,71 +34,148 @@ pub enum By {
     Corner,
 }
 
-// In the order of the columns: source, rubber band, can move, outside, parent, bounced, by.
 #[derive(Clone, Copy)]
-pub struct Row(
-    pub Sources,
-    pub Wanted,
-    pub CanMove,
-    pub Wanted,
-    pub Wanted,
-    pub Wanted,
-    pub By,
-);
-
-pub fn row_at(number: usize) -> Row {
-    match number {
-        0 => Row(All, Any, CanMove::DeltaZero, Any, Any, Any, By::DeltaZero),
-        1 => Row(All, No, CanMove::Yes, Any, Any, Any, By::Can),
-        2 => Row(All, No, CanMove::No, Any, Any, Any, By::Nobody),
-        3 => Row(Others, Yes, CanMove::Yes, Any, Any, Any, By::Can),
-        4 => Row(Others, Yes, CanMove::No, Any, Any, Any, By::Nobody),
-        5 => Row(Trackpads, Yes, CanMove::Yes, Any, Any, Any, By::Can),
-        6 => Row(Trackpads, Yes, CanMove::No, Yes, Any, Any, By::Overscroll),
-        7 => Row(Trackpads, Yes, CanMove::No, No, No, Any, By::NoParent),
-        8 => Row(Trackpad, Yes, CanMove::No, No, Yes, Any, By::Nobody),
-        9 => Row(Momentum, Yes, CanMove::No, No, Yes, Yes, By::Corner),
-        _ => Row(Momentum, Yes, CanMove::No, No, Yes, No, By::Nobody),
-    }
+pub struct Row {
+    pub sources: Sources,
+    pub rubber_band: Wanted,
+    pub can_move: CanMove,
+    pub outside: Wanted,
+    pub parent: Wanted,
+    pub bounced: Wanted,
+    pub by: By,
 }
 
+// Whatever the source, the flags and the outside are, where the delta is 0.
+const DELTA_ZERO: Row = Row {
+    sources: Sources::All,
+    rubber_band: Wanted::Any,
+    can_move: CanMove::DeltaZero,
+    outside: Wanted::Any,
+    parent: Wanted::Any,
+    bounced: Wanted::Any,
+    by: By::DeltaZero,
+};
+
+pub const ROWS: [Row; 11] = [
+    DELTA_ZERO,
+    Row {
+        rubber_band: Wanted::No,
+        can_move: CanMove::Yes,
+        by: By::Can,
+        ..DELTA_ZERO
+    },
+    Row {
+        rubber_band: Wanted::No,
+        can_move: CanMove::No,
+        by: By::Nobody,
+        ..DELTA_ZERO
+    },
+    Row {
+        sources: Sources::Others,
+        rubber_band: Wanted::Yes,
+        can_move: CanMove::Yes,
+        by: By::Can,
+        ..DELTA_ZERO
+    },
+    Row {
+        sources: Sources::Others,
+        rubber_band: Wanted::Yes,
+        can_move: CanMove::No,
+        by: By::Nobody,
+        ..DELTA_ZERO
+    },
+    Row {
+        sources: Sources::Trackpads,
+        rubber_band: Wanted::Yes,
+        can_move: CanMove::Yes,
+        by: By::Can,
+        ..DELTA_ZERO
+    },
+    Row {
+        sources: Sources::Trackpads,
+        rubber_band: Wanted::Yes,
+        can_move: CanMove::No,
+        outside: Wanted::Yes,
+        by: By::Overscroll,
+        ..DELTA_ZERO
+    },
+    Row {
+        sources: Sources::Trackpads,
+        rubber_band: Wanted::Yes,
+        can_move: CanMove::No,
+        outside: Wanted::No,
+        parent: Wanted::No,
+        by: By::NoParent,
+        ..DELTA_ZERO
+    },
+    Row {
+        sources: Sources::Trackpad,
+        rubber_band: Wanted::Yes,
+        can_move: CanMove::No,
+        outside: Wanted::No,
+        parent: Wanted::Yes,
+        by: By::Nobody,
+        ..DELTA_ZERO
+    },
+    Row {
+        sources: Sources::Momentum,
+        rubber_band: Wanted::Yes,
+        can_move: CanMove::No,
+        outside: Wanted::No,
+        parent: Wanted::Yes,
+        bounced: Wanted::Yes,
+        by: By::Corner,
+        ..DELTA_ZERO
+    },
+    Row {
+        sources: Sources::Momentum,
+        rubber_band: Wanted::Yes,
+        can_move: CanMove::No,
+        outside: Wanted::No,
+        parent: Wanted::Yes,
+        bounced: Wanted::No,
+        by: By::Nobody,
+        ..DELTA_ZERO
+    },
+];
+
 // How many rows the turn belongs to.
-pub fn rows_of(turn: Turn) -> u64 {
-    let mut count: u64 = 0;
-    for number in 0..ROWS {
-        if row_at(number).has(turn) {
-            count += 1;
-        }
-    }
-    count
+pub fn rows_of(turn: Turn) -> usize {
+    ROWS.iter().filter(|row| row.has(turn)).count()
 }
 
 impl Row {
     // Whether the turn belongs to the row.
-    pub fn has(self, turn: Turn) -> bool {
-        let Row(sources, rubber_band, can_move, outside, parent, bounced, _) = self;
-        let place = turn.place;
-        let moves = place.can_move;
-        let source = turn.source;
-        sources.has(source)
-            & rubber_band.allows(turn.rubber_band)
-            & can_move.is(moves)
-            & outside.allows(place.outside)
-            & parent.allows(turn.parent)
-            & bounced.allows(turn.bounced)
+    pub fn has(&self, turn: Turn) -> bool {
+        self.sources.has(turn.source)
+            && self.rubber_band.allows(turn.rubber_band)
+            && self.can_move == turn.place.can_move
+            && self.outside.allows(turn.place.outside)
+            && self.parent.allows(turn.parent)
+            && self.bounced.allows(turn.bounced)
     }
 }
 
 impl Sources {
-    fn has(self, source: WheelSource) -> bool {
-        let trackpad = is_trackpad(source);
+    fn has(self, source: Option<WheelSource>) -> bool {
+        let trackpad = source == Some(WheelSource::Trackpad);
         let momentum = is_momentum(source);
         match self {
             Sources::All => true,
-            Sources::Others => !trackpad & !momentum,
-            Sources::Trackpads => trackpad | momentum,
+            Sources::Others => !trackpad && !momentum,
+            Sources::Trackpads => trackpad || momentum,
             Sources::Trackpad => trackpad,
             Sources::Momentum => momentum,
+        }
+    }
+
+    pub fn name(self) -> &'static str {
+        match self {
+            Sources::All => "any",
+            Sources::Others => "others",
+            Sources::Trackpads => "trackpads",
+            Sources::Trackpad => "Trackpad",
+            Sources::Momentum => "Momentum",
         }
     }
 }
@@ -114,18 +188,30 @@ impl Wanted {
             Wanted::No => !flag,
         }
     }
-}
 
-fn is_trackpad(source: WheelSource) -> bool {
-    match source {
-        WheelSource::Trackpad => true,
-        _ => false,
+    // The words for yes and for no.
+    pub fn name_of(self, yes: &'static str, no: &'static str) -> &'static str {
+        match self {
+            Wanted::Any => "any",
+            Wanted::Yes => yes,
+            Wanted::No => no,
+        }
     }
 }
 
-pub fn is_momentum(source: WheelSource) -> bool {
-    match source {
-        WheelSource::Momentum => true,
-        _ => false,
+impl By {
+    pub fn name(self) -> &'static str {
+        match self {
+            By::DeltaZero => "delta 0",
+            By::Can => "can",
+            By::Nobody => "nobody",
+            By::Overscroll => "overscroll",
+            By::NoParent => "no parent",
+            By::Corner => "corner",
+        }
     }
+}
+
+pub fn is_momentum(source: Option<WheelSource>) -> bool {
+    source == Some(WheelSource::Momentum)
 }

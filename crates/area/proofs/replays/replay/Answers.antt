@@ -1,35 +1,42 @@
-use Rattle.std.specs.Prelude.{ℕ, ◌<◌, ◌≤◌, List, length}
+use Rattle.std.proofs.Common.{rules}
+use Rattle.std.specs.Prelude.{◌≡◌, ℕ, ◌<◌, ◌+◌, ◌^◌, List, length, set}
 use native.Mathlib.Omega.{arith}
+use mathlib.Core.Path.{ap, ◌∙◌}
+use mathlib.Core.Logic.{inl}
+use Rattle.std.specs.declared.iter.Enumerate.{Enumerate}
+use Rattle.std.specs.Iterator.Adapters.{enumerate_source, enumerate_count}
+use Rattle.std.proofs.lemmas.List.{set_past}
+use Rattle.refusals.specs.Refusal.{number_in}
 use Rattle.numbers.specs.Table.{table_of}
-use Rattle.area.proofs.ReplayLaws.{begins, turns, finishes}
--- `replay` meets its contract: the invariant is `Upto`, and the measure is what is left of the list.
+use Rattle.area.specs.Replay.{calls_of}
+use Rattle.area.proofs.ReplayLaws.{few_calls, begins, turns, finishes}
+use Rattle.area.specs.declared.replays.Calls.{Calls}
+-- `replay` meets its contract: the invariant is `Upto`, of the calls that the iterator has left.
 use Rattle.area.proofs.replays.replay.Goals as goal
 
-pub loop-at-init : goal.loop-at-init
-loop-at-init c = (omega arith, begins _ _ _ c.default-state.ensures.starts)
+pub loop-i-init : goal.loop-i-init
+loop-i-init c =
+    let calls : List ℕ = c.args.calls.now in
+    let it = c.into_iter-i-iterator.ensures.into_iter_gives in
+    let none = ap enumerate_count it ∙ c.enumerate-i-items.ensures.count in
+    let all = ap (λ (s : Enumerate Calls). calls_of (enumerate_source s).0.now) it ∙ ap (λ (s : Calls). calls_of s.0.now) c.enumerate-i-items.ensures.source in
+    let fits : enumerate_count c.into_iter-i-iterator.result + length (calls_of (enumerate_source c.into_iter-i-iterator.result).0.now) < 2 ^ 64 =
+    omega (arith, none, ap length all, few_calls calls) in
+    ((tt, tt, inl fits), tt, begins (calls_of calls) _ _ _ _ c.default-state.ensures.starts all none)
 
-pub slice_bounds-call_by-count : goal.slice_bounds-call_by-count
-slice_bounds-call_by-count c = omega (arith, c.frame_end-end.ensures.low)
-
-pub loop-at-smaller : goal.loop-at-smaller
-loop-at-smaller c =
-    let part = c.frame_end-end.ensures in
-    omega (arith, part.low, part.high)
-
-pub loop-at-preserved : goal.loop-at-preserved
+pub loop-i-preserved : goal.loop-i-preserved
 unfolding table_of
-loop-at-preserved c =
-    let calls : List ℕ =
-    c.args.calls.now in
-    let at : ℕ = c.loop-at.at in
-    let h : at < length calls = omega arith in
-    let upto = c.loop-at.invariant.1 in
-    let part = c.frame_end-end.ensures in
-    let answers = c.call_by-answer.ensures in
-    let puts = c.put.ensures in
-    (part.high, turns calls _ _ at _ _ _ _ _ answers puts h part upto)
+loop-i-preserved c =
+    let it = c.in-Some.ensures.steps in
+    let goes = c.in-Some.ensures.goes.on tt in
+    let now : List ℕ = c.loop-i.refusals in
+    let told : ℕ = number_in c.call_by-answer.result in
+    let wrote : c.if-i-refusals.refusals ≡ set now c.in-Some.i told = search (rules, set_past) in (
+      goes.0,
+      goes.1,
+      turns _ _ _ c.in-Some.form c.in-Some.frame.now _ _ _ _ c.call_by-answer.result _ _ _ it.0 c.call_by-answer.ensures c.state_after-state.ensures
+          (wrote ∙ ap (λ (k : ℕ). set now k told) it.1) it.2 c.loop-i.invariant.2,
+    )
 
 pub returns : goal.returns
-returns c =
-    let h : length c.args.calls.now ≤ c.loop-at.at = omega arith in
-    finishes _ _ _ _ _ _ h c.loop-at.invariant.1
+returns c = finishes _ _ _ _ _ _ c.in-None.ensures.steps.0.0 c.loop-i.invariant.2

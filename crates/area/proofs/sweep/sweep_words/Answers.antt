@@ -1,16 +1,17 @@
-use Rattle.std.specs.Prelude.{◌≡◌, ℕ, List}
-use mathlib.Core.Path.{sym, subst}
-use Rattle.area.specs.declared.sweep.Swept.{Swept}
-use Rattle.area.specs.Sweep.{swept_of, SweepHolds}
+use Rattle.std.proofs.Common.{ap, ◌∙◌, ◌/◌}
+use Rattle.area.specs.Marks.{Walk}
 use Rattle.area.proofs.WalkLaws.{swept_is}
-use Rattle.area.proofs.AloneLaws.{sweep_holds}
+use Rattle.area.proofs.AloneLaws.{holds_of}
 use Rattle.area.proofs.sweep.sweep_words.Goals as goal
 
--- the equation, and so what holds of every walk
-told : (s : List ℕ) (n : ℕ) (r : Swept) → r ≡ swept_of s n → (r ≡ swept_of s n) × SweepHolds s n r
-told s n r e = (e, subst (SweepHolds s n) (sym e) (sweep_holds s n))
+pub returns-in-None : goal.returns-in-None
+returns-in-None c =
+    let s = c.args.frame.now in
+    let is = ap (λ (w : Walk). record { count = w.count; kept = w.mark / 128 }) c.in-None.ensures ∙ swept_is s c.args.n in
+    record { answers = is; holds = holds_of s c.args.n _ is }
 
-pub returns : goal.returns
-returns c =
-    let a = c.args in
-    record { answers = (told a.frame.now a.n _ (rw c.walk_over-walk.ensures (swept_is a.frame.now a.n))).0; holds = (told a.frame.now a.n _ (rw c.walk_over-walk.ensures (swept_is a.frame.now a.n))).1 }
+pub returns-in-Some : goal.returns-in-Some
+returns-in-Some c =
+    let s = c.args.frame.now in
+    let is = c.swept.ensures ∙ ap (λ (w : Walk). record { count = w.count; kept = w.mark / 128 }) c.in-Some.ensures ∙ swept_is s c.args.n in
+    record { answers = is; holds = holds_of s c.args.n _ is }

@@ -1,76 +1,30 @@
-use mathlib.Core.Path.{sym, ap, ◌∙◌}
-use mathlib.Core.Bool.{false}
+use mathlib.Core.Path.{◌≡◌}
 use native.Mathlib.Omega.{arith}
-use borrow.Author.Tests.{not-true, not-false}
-use Rattle.words.specs.Words.{word_at}
+use Rattle.std.proofs.lemmas.Result.{err_from_is_err_and}
 use Rattle.drawer.specs.Calls.{forget_on}
-use Rattle.drawer.proofs.FoundLaws.{link_room, found_room}
+use Rattle.drawer.proofs.AnswerLaws.{missed, given}
+use Rattle.drawer.proofs.CaseLaws.{forget_bad, forget_none, forget_some}
 use Rattle.drawer.proofs.StayLaws.{with_forgotten}
 use Rattle.drawer.proofs.forgetting.forget.Goals as goal
 
-pub returns-then-not-right : goal.returns-then-not-right
-unfolding forget_on
-returns-then-not-right c =
-    let a = c.args in
-    record { answers = (with_forgotten a.drawer.now _ _ a.id (rw (← c.is_drawer-right.ensures, not-true c.is_drawer-right.result c.if-not-right.true-raw))).0; kept = (with_forgotten a.drawer.now _ _ a.id (rw (← c.is_drawer-right.ensures, not-true c.is_drawer-right.result c.if-not-right.true-raw))).1 }
+pub returns-in_err-of-clause-answers : goal.returns-in_err-of-clause-answers
+returns-in_err-of-clause-answers c =
+    let p = err_from_is_err_and c.from_residual.result c.from_residual.ensures.1 in
+    let none = c.in_err-of.ensures.refused in
+    rw (p.1, p.2, none.0, forget_bad c.args.drawer.now c.args.id none.1)
 
-pub link_in-p-requires : goal.link_in-p-requires
-link_in-p-requires c = sym c.is_drawer-right.ensures ∙ not-false c.is_drawer-right.result c.if-not-right.false-raw
-
-pub returns-then-absent : goal.returns-then-absent
-unfolding forget_on
-returns-then-absent c =
-    let a = c.args in
-    record {
-      answers = (with_forgotten a.drawer.now _ _ a.id
-          (rw (
-            ← c.is_drawer-right.ensures,
-            not-false c.is_drawer-right.result c.if-not-right.false-raw,
-            ← c.link_in-p.ensures,
-            ← c.word-r.ensures,
-            c.if-absent.true-raw,
-          ))).0;
-      kept = (with_forgotten a.drawer.now _ _ a.id
-          (rw (
-            ← c.is_drawer-right.ensures,
-            not-false c.is_drawer-right.result c.if-not-right.false-raw,
-            ← c.link_in-p.ensures,
-            ← c.word-r.ensures,
-            c.if-absent.true-raw,
-          ))).1;
-    }
-
-pub free_record-requires : goal.free_record-requires
-free_record-requires c =
-    let a = c.args in
-    let s = a.drawer.now in
-    let right = sym c.is_drawer-right.ensures ∙ not-false c.is_drawer-right.result c.if-not-right.false-raw in
-    let w = c.word-r in
-    let l = c.link_in-p in
-    let found = found_room s right a.id w.result (w.ensures ∙ ap (word_at s) l.ensures) c.if-absent.false-raw in
-    (found.0, omega (arith, l.ensures, link_room s right false a.id), found.1)
+pub returns-in_err-place-clause-answers : goal.returns-in_err-place-clause-answers
+returns-in_err-place-clause-answers c =
+    let p = err_from_is_err_and c.from_residual-in_err-place.result c.from_residual-in_err-place.ensures.1 in
+    let held = c.in_ok-of.ensures.drawer in
+    let absent = rw held.0 at (missed c.find.result c.ok_or.result _ c.in_err-place.field-0.0 _ c.ok_or.ensures.value c.in_err-place.was c.find.ensures.absent) in
+    rw (p.1, p.2, absent.0, forget_none c.args.drawer.now c.args.id held.1 absent.1)
 
 pub returns : goal.returns
-unfolding forget_on
 returns c =
-    let a = c.args in
-    record {
-      answers = (with_forgotten a.drawer.now _ _ a.id
-          (rw (
-            ← c.is_drawer-right.ensures,
-            not-false c.is_drawer-right.result c.if-not-right.false-raw,
-            ← c.link_in-p.ensures,
-            ← c.word-r.ensures,
-            c.if-absent.false-raw,
-            c.free_record.ensures,
-          ))).0;
-      kept = (with_forgotten a.drawer.now _ _ a.id
-          (rw (
-            ← c.is_drawer-right.ensures,
-            not-false c.is_drawer-right.result c.if-not-right.false-raw,
-            ← c.link_in-p.ensures,
-            ← c.word-r.ensures,
-            c.if-absent.false-raw,
-            c.free_record.ensures,
-          ))).1;
-    }
+    let s = c.args.drawer.now in
+    let held = c.in_ok-of.ensures.drawer in
+    let found = rw held.0 at (given c.find.result c.ok_or.result _ c.in_ok-place.place _ c.ok_or.ensures.value c.in_ok-place.was c.find.ensures.found) in
+    let answers : record { refusal = 0; drawer = c.free_record.new.drawer } ≡ forget_on s c.args.id =
+    rw (forget_some s c.args.id held.1 (λ z. omega (arith, found.0, found.2)), c.free_record.ensures, found.0, found.1) in
+    record { answers = answers; kept = with_forgotten s c.free_record.new.drawer c.args.id answers }

@@ -3,37 +3,29 @@ use Prim.Native.Nat.{ℕ}
 use native.Mathlib.Omega.{arith}
 use lib.ListN.{length}
 use Rattle.drawer.proofs.FillLaws.{fresh_up_to, fresh_first, fresh_next, fresh_all, fresh_length, fresh_start}
-use borrow.Author.Rules.{rules}
 use Rattle.drawer.proofs.laying.fill.Goals as goal
 
 pub loop-r-init : goal.loop-r-init
 loop-r-init c =
     let s = c.args.drawer.now in
-    let n = c.args.n in
+    let n = c.args.count in
     let left = c.put_first.ensures ∙ fresh_first n s in (
-      omega arith,
-      search rules,
       ap length left ∙ fresh_length n 1 s (omega arith) ∙ c.requires.0,
       left ∙ fresh_start n s ∙ ap (fresh_up_to n 1) (sym left),
     )
 
-pub put_free-requires : goal.put_free-requires
-put_free-requires c = omega (arith, ap length c.loop-r.invariant.3, fresh_length c.args.n c.loop-r.r c.put_first.new.drawer (omega arith))
-
 pub loop-r-preserved : goal.loop-r-preserved
 loop-r-preserved c =
     let s = c.put_first.new.drawer in (
-      omega arith,
-      omega arith,
-      c.loop-r.invariant.2,
+      c.loop-r.invariant.0,
       c.put_free.ensures
-          ∙ rw (c.next_free.ensures, c.loop-r.invariant.3) (fresh_next c.args.n c.loop-r.r s (omega arith)),
+          ∙ rw (c.next_free.ensures, c.loop-r.invariant.1) (fresh_next c.args.count c.loop-r.r s (omega arith)),
     )
 
 pub returns : goal.returns
 returns c =
     let s = c.put_first.new.drawer in
-    let done : c.loop-r.r ≡ c.args.n = omega arith in
-    c.loop-r.invariant.3
-    ∙ ap (λ (i : ℕ). fresh_up_to c.args.n i s) done
-    ∙ fresh_all c.args.n s c.loop-r.invariant.2
+    let done : c.loop-r.r ≡ c.args.count = omega arith in
+    c.loop-r.invariant.1
+    ∙ ap (λ (i : ℕ). fresh_up_to c.args.count i s) done
+    ∙ fresh_all c.args.count s c.loop-r.invariant.0

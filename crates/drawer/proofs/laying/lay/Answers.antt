@@ -1,25 +1,29 @@
-use mathlib.Core.Path.{◌≡◌, sym, ◌∙◌, subst}
-use Prim.Native.Nat.{ℕ, ◌*◌, ◌<◌, ◌≤◌}
+use mathlib.Core.Path.{◌≡◌}
 use lib.ListN.{length}
-use Rattle.drawer.specs.Calls.{width, lay_on}
+use Rattle.std.proofs.lemmas.Result.{err_from_is_err_and}
+use Rattle.drawer.specs.Calls.{lay_on}
+use Rattle.drawer.proofs.AnswerLaws.{missed, given}
 use Rattle.drawer.proofs.SizeLaws.{whole_parts}
+use Rattle.drawer.proofs.CaseLaws.{laid_whole}
 use Rattle.drawer.proofs.ListLaws.{with_lists}
 use Rattle.drawer.proofs.laying.lay.Goals as goal
 
+pub returns-in_err-count-clause-answers : goal.returns-in_err-count-clause-answers
+unfolding lay_on
+returns-in_err-count-clause-answers c =
+    let p = err_from_is_err_and c.from_residual.result c.from_residual.ensures.1 in
+    let m = missed c.count_of.result c.ok_or.result _ c.in_err-count.field-0.0 _ c.ok_or.ensures.value (c.in_err-count.was) c.count_of.ensures.part in
+    rw (p.1, p.2, m.0, m.1)
+
 pub fill-requires : goal.fill-requires
 fill-requires c =
-    let s = c.args.drawer.now in
-    subst (λ (n : ℕ). (length s ≡ 4 * (width * n)) × (0 < n) × (n ≤ 65536)) (sym c.records_of.ensures)
-    (whole_parts width (length s) (sym c.is_whole-whole.ensures ∙ c.if-whole.true))
-
-pub returns-then-whole : goal.returns-then-whole
-unfolding lay_on
-returns-then-whole c =
-    let all = with_lists c.args.drawer.now c.fill.new.drawer 0 (rw (← c.is_whole-whole.ensures, c.if-whole.true, c.fill.ensures, c.records_of.ensures)) in
-    record { answers = all.0; kept = all.1.0; lists = all.1.1.0; order = all.1.1.1 }
+    let q = given c.count_of.result c.ok_or.result _ c.in_ok-count.count _ c.ok_or.ensures.value (c.in_ok-count.was) c.count_of.ensures.whole in
+    rw q.0 (whole_parts 42 (length c.args.drawer.now) q.1)
 
 pub returns : goal.returns
-unfolding lay_on
 returns c =
-    let all = with_lists c.args.drawer.now c.args.drawer.now 13 (rw (← c.is_whole-whole.ensures, c.if-whole.false)) in
-    record { answers = all.0; kept = all.1.0; lists = all.1.1.0; order = all.1.1.1 }
+    let s = c.args.drawer.now in
+    let q = given c.count_of.result c.ok_or.result _ c.in_ok-count.count _ c.ok_or.ensures.value (c.in_ok-count.was) c.count_of.ensures.whole in
+    let answers : record { refusal = 0; drawer = c.fill.new.drawer } ≡ lay_on s = rw (laid_whole s q.1, c.fill.ensures, q.0) in
+    let left = with_lists s c.fill.new.drawer answers in
+    record { answers = answers; kept = left.0; lists = left.1; order = left.2 }

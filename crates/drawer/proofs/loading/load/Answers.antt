@@ -1,75 +1,39 @@
-use mathlib.Core.Path.{◌≡◌, sym, ap, ◌∙◌}
+use mathlib.Core.Path.{◌≡◌, ap, ◌∙◌}
 use native.Mathlib.Omega.{arith}
-use borrow.Author.Tests.{not-true, not-false}
-use Rattle.words.specs.Words.{word_at}
-use Rattle.drawer.specs.Search.{record_of}
-use Rattle.drawer.specs.Calls.{width, load_on}
 use lib.ListN.{length}
+use borrow.Author.Rules.{rules}
+use Rattle.std.proofs.lemmas.Result.{err_from_is_err_and}
 use Rattle.records.proofs.TidiedLaws.{tidied_length}
 use Rattle.records.proofs.TidiedWrittenLaws.{tidied_holds}
-use Rattle.drawer.proofs.CaseLaws.{whole_put}
-use Rattle.drawer.proofs.FoundLaws.{found_room}
-use borrow.Author.Rules.{rules}
+use Rattle.drawer.proofs.AnswerLaws.{missed, given}
+use Rattle.drawer.proofs.CaseLaws.{load_bad, load_none, load_some, whole_put}
 use Rattle.drawer.proofs.loading.load.Goals as goal
 
-pub returns-then-not-right : goal.returns-then-not-right
-unfolding load_on
-returns-then-not-right c = record { answers = rw (← c.is_drawer-right.ensures, not-true c.is_drawer-right.result c.if-not-right.true-raw); stands = tidied_holds }
+pub returns-in_err-of : goal.returns-in_err-of
+returns-in_err-of c =
+    let p = err_from_is_err_and c.from_residual.result c.from_residual.ensures.1 in
+    let none = c.in_err-of.ensures.refused in
+    record { answers = rw (p.1, p.2, none.0, load_bad c.args.drawer.now c.args.id c.args.state.now none.1); stands = tidied_holds }
 
-pub link_in-requires : goal.link_in-requires
-link_in-requires c = sym c.is_drawer-right.ensures ∙ not-false c.is_drawer-right.result c.if-not-right.false-raw
+pub returns-in_err-place : goal.returns-in_err-place
+returns-in_err-place c =
+    let p = err_from_is_err_and c.from_residual-in_err-place.result c.from_residual-in_err-place.ensures.1 in
+    let held = c.in_ok-of.ensures.drawer in
+    let absent = rw held.0 at (missed c.find.result c.ok_or.result _ c.in_err-place.field-0.0 _ c.ok_or.ensures.value c.in_err-place.was c.find.ensures.absent) in
+    record { answers = rw (p.1, p.2, absent.0, load_none c.args.drawer.now c.args.id c.args.state.now held.1 absent.1); stands = tidied_holds }
 
-pub returns-then-absent : goal.returns-then-absent
-unfolding load_on
-returns-then-absent c =
-    let a = c.args in
-    let named : c.word-r.result ≡ record_of width a.drawer.now a.id = c.word-r.ensures ∙ ap (word_at a.drawer.now) c.link_in.ensures in
-    record { answers = rw (← c.is_drawer-right.ensures, not-false c.is_drawer-right.result c.if-not-right.false-raw, ← named, c.if-absent.true-raw); stands = tidied_holds }
-
-pub overflow_mul-r : goal.overflow_mul-r
-overflow_mul-r c =
-    let a = c.args in
-    let s = a.drawer.now in
-    let right = sym c.is_drawer-right.ensures ∙ not-false c.is_drawer-right.result c.if-not-right.false-raw in
-    let w = c.word-r in
-    let found = found_room s right a.id w.result (w.ensures ∙ ap (word_at s) c.link_in.ensures) c.if-absent.false-raw in
-    omega (arith, found.1)
-
-pub overflow_add-r : goal.overflow_add-r
-overflow_add-r c =
-    let a = c.args in
-    let s = a.drawer.now in
-    let right = sym c.is_drawer-right.ensures ∙ not-false c.is_drawer-right.result c.if-not-right.false-raw in
-    let w = c.word-r in
-    let found = found_room s right a.id w.result (w.ensures ∙ ap (word_at s) c.link_in.ensures) c.if-absent.false-raw in
-    omega (arith, found.1)
-
-pub tidied-words-requires : goal.tidied-words-requires
-tidied-words-requires c =
-    let a = c.args in
-    let s = a.drawer.now in
-    let right = sym c.is_drawer-right.ensures ∙ not-false c.is_drawer-right.result c.if-not-right.false-raw in
-    let w = c.word-r in
-    let found = found_room s right a.id w.result (w.ensures ∙ ap (word_at s) c.link_in.ensures) c.if-absent.false-raw in
-    omega (arith, found.0, found.1)
-
-pub returns : goal.returns
-unfolding load_on
-returns c =
-    let a = c.args in
-    let named : c.word-r.result ≡ record_of width a.drawer.now a.id = c.word-r.ensures ∙ ap (word_at a.drawer.now) c.link_in.ensures in
+pub returns-clause-answers : goal.returns-clause-answers
+returns-clause-answers c =
+    let s = c.args.drawer.now in
+    let held = c.in_ok-of.ensures.drawer in
+    let found = rw held.0 at (given c.find.result c.ok_or.result _ c.in_ok-place.place _ c.ok_or.ensures.value c.in_ok-place.was c.find.ensures.found) in
     let ws = c.tidied-words.result in
-    let long : length a.state.now ≡ 156 = search rules in
+    let long : length c.args.state.now ≡ 156 = search rules in
     let many : length ws ≡ 39 = ap length c.tidied-words.ensures.answers ∙ tidied_length _ _ in
-    record {
-      answers = rw (
-        ← c.is_drawer-right.ensures,
-        not-false c.is_drawer-right.result c.if-not-right.false-raw,
-        ← named,
-        c.if-absent.false-raw,
-        c.put.ensures,
-        whole_put ws a.state.now (omega (arith, long, many)),
-        c.tidied-words.ensures.answers,
-      );
-      stands = tidied_holds;
-    }
+    rw (
+      load_some s c.args.id c.args.state.now held.1 (λ z. omega (arith, found.0, found.2)),
+      c.put.ensures,
+      whole_put ws c.args.state.now (omega (arith, long, many)),
+      c.tidied-words.ensures.answers,
+      found.0,
+    )

@@ -1,92 +1,50 @@
-use mathlib.Core.Path.{◌≡◌, sym, ap, ◌∙◌}
+use mathlib.Core.Path.{◌≡◌}
+use Prim.Native.Nat.{ℕ, ◌<◌}
 use native.Mathlib.Omega.{arith}
-use borrow.Author.Tests.{not-true, not-false}
-use Rattle.words.specs.Words.{word_at}
-use Rattle.drawer.specs.Search.{record_of}
-use Rattle.drawer.specs.Calls.{width, put_on}
-use Rattle.drawer.proofs.FoundLaws.{found_room}
+use lib.ListN.{length, get_or}
+use borrow.Author.Rules.{rules}
+use Rattle.std.proofs.lemmas.Result.{err_from_is_err_and}
+use Rattle.drawer.specs.Calls.{put_on}
+use Rattle.drawer.proofs.AnswerLaws.{missed, given}
+use Rattle.drawer.proofs.CaseLaws.{put_bad, put_full, put_new, put_over}
 use Rattle.drawer.proofs.StayLaws.{with_put}
 use Rattle.drawer.proofs.saving.save_words.Goals as goal
 
-pub returns-then-not-right : goal.returns-then-not-right
-unfolding put_on
-returns-then-not-right c =
-    let a = c.args in
-    record {
-      answers = (with_put a.drawer.now _ _ a.id a.words.now (omega arith) c.requires.0 (λ i. omega (arith, c.shared_slice_known-1.given i)) c.requires.1
-          (rw (← c.is_drawer-right.ensures, not-true c.is_drawer-right.result c.if-not-right.true-raw))).0;
-      kept = (with_put a.drawer.now _ _ a.id a.words.now (omega arith) c.requires.0 (λ i. omega (arith, c.shared_slice_known-1.given i)) c.requires.1
-          (rw (← c.is_drawer-right.ensures, not-true c.is_drawer-right.result c.if-not-right.true-raw))).1;
-    }
+pub returns-in_err-held-clause-answers : goal.returns-in_err-held-clause-answers
+returns-in_err-held-clause-answers c =
+    let p = err_from_is_err_and c.from_residual.result c.from_residual.ensures.1 in
+    let none = c.in_err-held.ensures.refused in
+    rw (p.1, p.2, none.0, put_bad c.args.drawer.now c.args.id c.args.words.now none.1)
 
-pub link_in-requires : goal.link_in-requires
-link_in-requires c = sym c.is_drawer-right.ensures ∙ not-false c.is_drawer-right.result c.if-not-right.false-raw
+pub returns-in-Some : goal.returns-in-Some
+returns-in-Some c =
+    let s = c.args.drawer.now in
+    let ws = c.args.words.now in
+    let held = c.in_ok-held.ensures.drawer in
+    let found = rw held.0 at c.in-Some.ensures.found in
+    let answers : record { refusal = 0; drawer = c.put.new.bytes } ≡ put_on s c.args.id ws =
+    rw (put_over s c.args.id ws held.1 (λ z. omega (arith, found.0, found.2)), c.put.ensures, found.0) in
+    let long : length ws ≡ 39 = search rules in
+    let small : (i : ℕ) → get_or ws i 0 < 4294967296 = λ i. search rules in
+    record { answers = answers; kept = with_put s c.put.new.bytes c.args.id ws (omega arith) long small c.requires answers }
 
-pub save_new-requires : goal.save_new-requires
-save_new-requires c = (sym c.is_drawer-right.ensures ∙ not-false c.is_drawer-right.result c.if-not-right.false-raw, c.requires.0)
-
-pub returns-then-absent : goal.returns-then-absent
-unfolding put_on
-returns-then-absent c =
-    let a = c.args in
-    let named : c.word-r.result ≡ record_of width a.drawer.now a.id = c.word-r.ensures ∙ ap (word_at a.drawer.now) c.link_in.ensures in
-    record {
-      answers = (with_put a.drawer.now _ _ a.id a.words.now (omega arith) c.requires.0 (λ i. omega (arith, c.shared_slice_known-1.given i)) c.requires.1
-          (rw (
-            ← c.is_drawer-right.ensures,
-            not-false c.is_drawer-right.result c.if-not-right.false-raw,
-            ← named,
-            c.if-absent.true-raw,
-          )
-          c.save_new.ensures)).0;
-      kept = (with_put a.drawer.now _ _ a.id a.words.now (omega arith) c.requires.0 (λ i. omega (arith, c.shared_slice_known-1.given i)) c.requires.1
-          (rw (
-            ← c.is_drawer-right.ensures,
-            not-false c.is_drawer-right.result c.if-not-right.false-raw,
-            ← named,
-            c.if-absent.true-raw,
-          )
-          c.save_new.ensures)).1;
-    }
-
-pub overflow_mul-r : goal.overflow_mul-r
-overflow_mul-r c =
-    let a = c.args in
-    let s = a.drawer.now in
-    let right = sym c.is_drawer-right.ensures ∙ not-false c.is_drawer-right.result c.if-not-right.false-raw in
-    let w = c.word-r in
-    let found = found_room s right a.id w.result (w.ensures ∙ ap (word_at s) c.link_in.ensures) c.if-absent.false-raw in
-    omega (arith, found.1)
-
-pub put-requires : goal.put-requires
-put-requires c =
-    let a = c.args in
-    let s = a.drawer.now in
-    let right = sym c.is_drawer-right.ensures ∙ not-false c.is_drawer-right.result c.if-not-right.false-raw in
-    let w = c.word-r in
-    let found = found_room s right a.id w.result (w.ensures ∙ ap (word_at s) c.link_in.ensures) c.if-absent.false-raw in
-    omega (arith, found.0, c.requires.0)
+pub returns-in_err-place-clause-answers : goal.returns-in_err-place-clause-answers
+returns-in_err-place-clause-answers c =
+    let p = err_from_is_err_and c.from_residual-in_err-place.result c.from_residual-in_err-place.ensures.1 in
+    let held = c.in_ok-held.ensures.drawer in
+    let absent = rw held.0 at c.in_default.ensures.absent in
+    let full = rw held.0 at (missed c.vacancy.result c.ok_or.result _ c.in_err-place.field-0.0 _ c.ok_or.ensures.value c.in_err-place.was c.vacancy.ensures.full) in
+    rw (p.1, p.2, full.0, put_full c.args.drawer.now c.args.id c.args.words.now held.1 absent full.1)
 
 pub returns : goal.returns
-unfolding put_on
 returns c =
-    let a = c.args in
-    let named : c.word-r.result ≡ record_of width a.drawer.now a.id = c.word-r.ensures ∙ ap (word_at a.drawer.now) c.link_in.ensures in
-    record {
-      answers = (with_put a.drawer.now _ _ a.id a.words.now (omega arith) c.requires.0 (λ i. omega (arith, c.shared_slice_known-1.given i)) c.requires.1
-          (rw (
-            ← c.is_drawer-right.ensures,
-            not-false c.is_drawer-right.result c.if-not-right.false-raw,
-            ← named,
-            c.if-absent.false-raw,
-            c.put.ensures,
-          ))).0;
-      kept = (with_put a.drawer.now _ _ a.id a.words.now (omega arith) c.requires.0 (λ i. omega (arith, c.shared_slice_known-1.given i)) c.requires.1
-          (rw (
-            ← c.is_drawer-right.ensures,
-            not-false c.is_drawer-right.result c.if-not-right.false-raw,
-            ← named,
-            c.if-absent.false-raw,
-            c.put.ensures,
-          ))).1;
-    }
+    let s = c.args.drawer.now in
+    let ws = c.args.words.now in
+    let held = c.in_ok-held.ensures.drawer in
+    let absent = rw held.0 at c.in_default.ensures.absent in
+    let found = rw held.0 at (given c.vacancy.result c.ok_or.result _ c.in_ok-place.place _ c.ok_or.ensures.value c.in_ok-place.was c.vacancy.ensures.found) in
+    let answers : record { refusal = 0; drawer = c.put_new.new.drawer } ≡ put_on s c.args.id ws =
+    rw (put_new s c.args.id ws held.1 absent (λ z. omega (arith, found.0, found.2)), c.put_new.ensures, found.0, found.1) in
+    let long : length ws ≡ 39 = search rules in
+    let small : (i : ℕ) → get_or ws i 0 < 4294967296 = λ i. search rules in
+    record { answers = answers; kept = with_put s c.put_new.new.drawer c.args.id ws (omega arith) long small c.requires answers }

@@ -8,4 +8,4 @@ pub returns : goal.returns
 unfolding reset_on
 returns c =
     let cleared = c.put_time.ensures in
-    record { clears = cleared; stands = ap state_of cleared ∙ reset_stands _ c.put_time-arg-1.given.0.1 }
+    record { clears = cleared; stands = ap state_of cleared ∙ reset_stands _ c.told-state }

@@ -41,6 +41,6 @@ pub returns-then-x-2 : goal.returns-then-x-2
 unfolding by_table exp_at series_of
 returns-then-x-2 c = rw (c.if-x.false, c.if-x-2.true, ← c.truncating_f32_to_u64-k.ensures, ← c.entry_in-t.ensures)
 
-pub returns : goal.returns
+pub returns-else-x-2 : goal.returns-else-x-2
 unfolding by_table div of_bits
-returns c = rw (c.if-x.false, c.if-x-2.false)
+returns-else-x-2 c = rw (c.if-x.false, c.if-x-2.false)

@@ -5,17 +5,17 @@ use Rattle.sweep.proofs.line.line_of.Goals as goal
 
 pub loop-n-init : goal.loop-n-init
 unfolding digits_from
-loop-n-init c = (omega arith, refl, refl)
+loop-n-init c = (refl, refl)
 
 pub loop-n-preserved : goal.loop-n-preserved
 loop-n-preserved c =
     let l = c.loop-n in
     let h : l.n < 104 = omega arith in
-    (omega (arith, h), length-set l.line l.n _ ∙ l.invariant.1, turns _ l.line l.n _ h c.digit_after.ensures l.invariant.2)
+    (length-set l.line l.n _ ∙ l.invariant.0, turns _ l.line l.n _ h c.digit_after.ensures l.invariant.1)
 
 pub returns : goal.returns
 unfolding line_of
 returns c =
     let l = c.loop-n in
     let h : l.n ≡ 104 = omega arith in
-    l.invariant.2 ∙ ap (written _) h
+    l.invariant.1 ∙ ap (written _) h

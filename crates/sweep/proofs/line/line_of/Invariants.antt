@@ -1,10 +1,7 @@
 -- The digits of the first n words stand in the line, and line feeds after them.
-use Rattle.std.proofs.Common.{◌≡◌, ◌-◌, ◌≤◌, length}
+use Rattle.std.proofs.Common.{◌≡◌, length}
 use Rattle.sweep.proofs.LineLaws.{written}
 use Rattle.sweep.proofs.line.line_of.Given as goal
 
 abbrev pub invariant-loop-n : goal.invariant-loop-n
-invariant-loop-n l = (l.n ≤ 104) × (length l.line ≡ 105) × (l.line ≡ written l.frame l.n)
-
-abbrev pub decreases-loop-n : goal.decreases-loop-n
-decreases-loop-n l = 104 - l.n
+invariant-loop-n l = (length l.line ≡ 105) × (l.line ≡ written l.frame l.n)

@@ -1,6 +1,0 @@
-use Rattle.area.specs.Frame.{frame_of, host_of}
-use Rattle.area.proofs.host_words.smooth_scroll_delta.Goals as goal
-
-pub returns : goal.returns
-unfolding frame_of host_of
-returns c = c.number_along.ensures

@@ -1,0 +1,9 @@
+use Rattle.std.proofs.Common.{refl, ◌∙◌}
+use Rattle.area.specs.Checks.{shows2, shows3, shows4, shows5}
+use Rattle.area.specs.Marks.{shown_of}
+use Rattle.numbers.proofs.TestLaws.{or_false}
+use Rattle.area.proofs.marks.PlainWord.check.Goals as goal
+
+pub returns : goal.returns
+unfolding shown_of shows2 shows3 shows4 shows5
+returns c = c.refuse.ensures ∙ rw c.word_exceeds_limit.ensures (simp or_false refl)

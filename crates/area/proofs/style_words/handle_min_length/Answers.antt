@@ -1,6 +1,0 @@
-use Rattle.area.specs.Frame.{frame_of, style_of}
-use Rattle.area.proofs.style_words.handle_min_length.Goals as goal
-
-pub returns : goal.returns
-unfolding frame_of style_of
-returns c = c.number_at.ensures

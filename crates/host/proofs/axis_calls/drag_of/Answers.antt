@@ -1,9 +1,0 @@
-use Rattle.host.proofs.axis_calls.drag_of.Goals as goal
-
-pub returns : goal.returns
-returns c = rw (
-  ← c.axis_of.ensures,
-  ← c.number_at.ensures,
-  ← c.number_at-2.ensures,
-  ← c.drag.ensures,
-)

@@ -1,0 +1,89 @@
+// What is read whole or not at all.
+ghost use Rattle.std.specs.Prelude.{IfOk, IsErrOf, vec_len, ◌≡◌, ◌≢◌, ◌≤◌, ◌++◌};
+ghost use Rattle.std.specs.Int.{w32, to_le_bytes};
+ghost use Rattle.std.specs.List.{flat_map};
+ghost use Rattle.std.specs.Io.KnownBytes.{Consumes};
+ghost use Rattle.streams.specs.declared.read.NoRecord.TheVariants.{Failed, Over};
+ghost use Rattle.streams.specs.Reading.{IsCutShort};
+
+use crate::read_full;
+use std::alloc::{AllocError, Global};
+use std::io;
+use std::io::Read;
+
+/// Why no record comes.
+#[derive(Debug, Drop)]
+pub enum NoRecord {
+    /// The input is over or cut short, or what it holds is no record.
+    Over,
+    Failed(io::Error),
+}
+
+impl From<io::Error> for NoRecord {
+    ghost from_gives = { λ error none. none ≡ Failed error };
+
+    fn from(error: io::Error) -> Self {
+        NoRecord::Failed(error)
+    }
+}
+
+impl From<AllocError> for NoRecord {
+    ghost from_gives = { λ _ none. none ≢ Over };
+
+    fn from(error: AllocError) -> Self {
+        NoRecord::Failed(io::Error::from(error))
+    }
+}
+
+pub fn read_array<R: Read, const N: usize>(input: &mut R) -> Result<[u8; N], NoRecord>
+    ensures whole { IfOk result (λ bytes. Consumes (R.remaining input.old) (R.remaining input.new) bytes) }
+    ensures over { IsErrOf result Over → IsCutShort (R.remaining input.old) (R.remaining input.new) N }
+{
+    let mut bytes = [0; N];
+    if read_full(input, &mut bytes)? < N {
+        return Err(NoRecord::Over);
+    }
+    Ok(bytes)
+}
+
+/// A little-endian word of 32 bits.
+pub fn read_word<R: Read>(input: &mut R) -> Result<u32, NoRecord>
+    ensures whole { IfOk result (λ word. Consumes (R.remaining input.old) (R.remaining input.new) (to_le_bytes w32 word)) }
+    ensures over { IsErrOf result Over → IsCutShort (R.remaining input.old) (R.remaining input.new) 4 }
+{
+    Ok(u32::from_le_bytes(read_array(input)?))
+}
+
+pub fn read_words<R: Read, const N: usize>(input: &mut R) -> Result<[u32; N], NoRecord>
+    ensures { IfOk result (λ words. Consumes (R.remaining input.old) (R.remaining input.new) (flat_map (to_le_bytes w32) words)) }
+{
+    let mut words = [0; N];
+    for word in words.iter_mut() {
+        *word = read_word(input)?;
+    }
+    Ok(words)
+}
+
+pub fn read_bytes<R: Read>(input: &mut R, alloc: Global, count: usize) -> Result<Vec<u8>, NoRecord>
+    ensures whole { IfOk result (λ v. Consumes (R.remaining input.old) (R.remaining input.new) v.items) }
+    ensures counts { IfOk result (λ v. vec_len v ≡ count) }
+    ensures over { IsErrOf result Over → IsCutShort (R.remaining input.old) (R.remaining input.new) count }
+{
+    let mut bytes = vec![in alloc; 0; count]?;
+    if read_full(input, &mut bytes)? < count {
+        return Err(NoRecord::Over);
+    }
+    Ok(bytes)
+}
+
+/// A word n, at most `most`, and n bytes.
+pub fn read_counted<R: Read>(input: &mut R, alloc: Global, most: usize) -> Result<Vec<u8>, NoRecord>
+    ensures counted { IfOk result (λ bytes. Consumes (R.remaining input.old) (R.remaining input.new) (to_le_bytes w32 (vec_len bytes) ++ bytes.items)) }
+    ensures most { IfOk result (λ bytes. vec_len bytes ≤ most) }
+{
+    let count = read_word(input)? as usize;
+    if most < count {
+        return Err(NoRecord::Over);
+    }
+    read_bytes(input, alloc, count)
+}
