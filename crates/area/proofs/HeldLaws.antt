@@ -254,8 +254,8 @@ pub record IsBefore (b : AxisBefore) : Type 0 where
   pub press : IsPress b.press
 
 pub record IsExtent (x : AxisExtent) : Type 0 where
-  pub min : Is32 x.min
-  pub max : Is32 x.max
+  pub min : Is32 x.inner.min
+  pub max : Is32 x.inner.max
   pub max_offset : Is32 x.max_offset
 
 pub record IsEnded (e : AxisEnded) : Type 0 where
@@ -282,11 +282,11 @@ ended_held f d e before space x wheel b now is room begun =
     }
 
 -- ---- a frame
-extent_held : (enabled shrink floating : Bool) (space : AxisSpace) (size : Float) → Is32 space.min → IsExtent (extent_by enabled shrink floating space size)
+extent_held : (enabled shrink floating : Bool) (space : AxisSpace) (size : Float) → Is32 space.inner.min → IsExtent (extent_by enabled shrink floating space size)
 unfolding extent_by
 extent_held enabled shrink floating space size h = record { min = h; max = add-fits binary32 _ _; max_offset = sub-fits binary32 _ _ }
 
-space_held : (s : List ℕ) (shown : Bool) (d e : ℕ) → Is32 (space_of (frame_of s) shown d e).min
+space_held : (s : List ℕ) (shown : Bool) (d e : ℕ) → Is32 (space_of (frame_of s) shown d e).inner.min
 unfolding space_of space_by side_of frame_of host_of rect_no
 space_held s shown d e = along_held s _ d
 

@@ -12,12 +12,12 @@ use Rattle.axis.specs.Step.{step_of, coast_of}
 use Rattle.area.specs.State.{default, clamped_to, clamped_offset}
 use Rattle.area.specs.Layout.{layout, rows, row_at, row_no}
 use Rattle.area.specs.Frame.{word_no, number_no, flag_no, time_no, pair_no, flags_no, pos2_no, rect_no, option_no, kind_no}
-use Rattle.area.specs.Frame.{visibility_no, drag_no, maybe_scroll_target_no, maybe_scroll_target_no, settings_of, style_of, host_of, content_of, frame_of}
+use Rattle.area.specs.Frame.{settings_of, style_of, host_of, content_of, frame_of}
 use Rattle.area.specs.Clock.{clock_refusal}
 use Rattle.area.specs.Checks.{is_heeded, shows2, shows3, shows4, shows5, is_shown, shows_no, any_shows, frame_refusal}
 use Rattle.area.specs.Checks.{is_pair_finite, are_targets_finite, are_presses_finite, is_rect_finite, is_state_finite}
 use Rattle.area.specs.Checks.{state_refusal, refusal_of, refusal_before7}
-use Rattle.numbers.specs.Shape.{along_of}
+use Rattle.numbers.specs.Shape.{along_of, from_x_y_ranges_of}
 use Rattle.area.specs.Geometry.{pick_of, shows_bar}
 use Rattle.area.specs.AxisPhysics.{physics_of}
 use Rattle.area.specs.Space.{bar_use_of, current_bar_use_of, side_of, space_by, space_of, inner_rect}
@@ -50,7 +50,7 @@ unfolding
     settings_of style_of host_of content_of frame_of
     is_heeded shows2 shows3 shows4 shows5 is_shown shows_no any_shows frame_refusal
     is_pair_finite are_targets_finite are_presses_finite is_rect_finite is_state_finite state_refusal refusal_of clock_refusal refusal_before7
-    along_of pick_of shows_bar physics_of
+    along_of from_x_y_ranges_of pick_of shows_bar physics_of
     bar_use_of current_bar_use_of side_of Space.inner_size_of space_by space_of inner_rect
     given_offset_or opened_of before_of released_of stepped_of driven_of followed_of
     drag_enabled has_background_drag input_of last_physics_of begun_from inner_rect_of viewport_of prepared_of begin_of

@@ -37,8 +37,8 @@ request_at v d = slice_index_or v d no_request
 unfoldable pub view_of : Frame → ℕ → AxisSpace → AxisView
 view_of f d space = record {
   min = num f.content.min d;
-  clip_start = space.clip_min;
-  clip_end = space.clip_max;
+  clip_start = space.clip.min;
+  clip_end = space.clip.max;
   spacing = num f.style.item_spacing d;
 }
 

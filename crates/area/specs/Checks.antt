@@ -1,8 +1,8 @@
 -- "Turned back, in checking order", 1 to 6, and document 02's 12. "For a frame, checks 1 to 5 read the frame alone, never the state."
-use Rattle.std.specs.Prelude.{Option, Some, None}
+use Rattle.std.specs.Prelude.{Option}
 use Rattle.numbers.specs.declared.shape.Rect.{Rect}
 use Rattle.area.specs.declared.state.ScrollingToTarget.{ScrollingToTarget}
-use Rattle.std.specs.Prelude.{ℕ, zero, suc, ◌-◌, Bool, true, false, cond, not, ◌&&◌, ◌||◌, List, length, ◌==◌, from_bits, nat_lt, slice_index_or}
+use Rattle.std.specs.Prelude.{ℕ, zero, suc, ◌-◌, Bool, false, cond, not, ◌&&◌, ◌||◌, List, length, ◌==◌, from_bits, nat_lt}
 use Rattle.std.specs.Prelude.{Float}
 use Rattle.std.specs.Float.{binary64}
 use Rattle.std.specs.Float.Ieee.{lt, le, ne}
@@ -12,8 +12,7 @@ use Rattle.numbers.specs.Scalar.{is_finite}
 use Rattle.numbers.specs.Finite.{option_finite, pair_finite, rect_finite}
 use Rattle.axis.specs.Limits.{exceeds_limit, is_decay_time_outside}
 use Rattle.area.specs.declared.state.State.{State}
-use Rattle.area.specs.Pair.{num}
-use Rattle.area.specs.State.{no_time, no_target, no_press}
+use Rattle.area.specs.State.{no_time}
 use Rattle.area.specs.Layout as At
 use Rattle.area.specs.Layout.{Row, row_no}
 use Rattle.area.specs.Frame.{word_no, number_no, time_no}

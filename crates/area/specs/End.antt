@@ -22,6 +22,7 @@ use Rattle.area.specs.declared.extent.AxisExtent.{AxisExtent}
 use Rattle.area.specs.declared.wheel_turn.WheelHeard.{WheelHeard}
 use Rattle.area.specs.declared.wheel_turn.Turned.{Turned}
 use Rattle.area.specs.declared.handle.BarSpace.{BarSpace}
+use Rattle.numbers.specs.Shape.{from_x_y_ranges_of}
 use Rattle.area.specs.declared.bar.Barred.{Barred}
 use Rattle.area.specs.declared.final_clamp.FinalClamp.{FinalClamp}
 use Rattle.area.specs.declared.end.AxisEnded.{AxisEnded}
@@ -32,11 +33,11 @@ use Rattle.area.specs.declared.end.Ended.{Ended}
 unfoldable pub bar_space_of : Extents → BarSpace
 bar_space_of x = record {
   content_size = x.this.content_size;
-  inner = record { min = x.this.min; max = x.this.max };
+  inner = x.this.inner;
   inner_size = x.this.size;
   max_offset = x.this.max_offset;
-  cross_inner_max = x.other.max;
-  cross_outer_max = x.other.outer_max;
+  cross_inner_max = x.other.inner.max;
+  cross_outer_max = x.other.outer.max;
 }
 
 -- ---- one axis, stage by stage, after targets, deltas and the wheel
@@ -86,11 +87,11 @@ axis_ended_of f d e before space x wheel b =
 
 -- inner_rect, "At this point this is the available size for the inner rect", as shrunk there
 unfoldable pub shrunk_rect_of : AxisExtent → AxisExtent → Rect
-shrunk_rect_of x y = record { min = record { x = x.min; y = y.min }; max = record { x = x.max; y = y.max } }
+shrunk_rect_of x y = from_x_y_ranges_of x.inner y.inner
 
 -- outer_rect
 unfoldable pub outer_rect_of : AxisExtent → AxisExtent → Rect
-outer_rect_of x y = record { min = record { x = x.min; y = y.min }; max = record { x = x.outer_max; y = y.outer_max } }
+outer_rect_of x y = from_x_y_ranges_of x.outer y.outer
 
 unfoldable pub end_of : Frame → State → Prepared → Ended
 end_of f s p =

@@ -21,17 +21,17 @@ inner_size_of direction_enabled auto_shrink inner_size content_size =
 -- "let inner_rect", "let outer_rect", "let limit_rect", "let content_is_too_large", "let max_offset"; each size is the rectangle's, rounded again
 unfoldable pub extent_by : Bool → Bool → Bool → AxisSpace → Float → AxisExtent
 extent_by direction_enabled auto_shrink floating space content_size =
-    let inner_size = inner_size_of direction_enabled auto_shrink (minus space.max space.min) content_size in
-    let max = plus space.min inner_size in
-    let size = minus max space.min in
-    let outer_max = plus space.min (plus size space.bar_use) in
-    let limit = pick_of floating (minus outer_max space.min) size in
+    let min = space.inner.min in
+    let inner_size = inner_size_of direction_enabled auto_shrink (minus space.inner.max min) content_size in
+    let max = plus min inner_size in
+    let size = minus max min in
+    let outer_max = plus min (plus size space.bar_use) in
+    let limit = pick_of floating (minus outer_max min) size in
     record {
       content_size = content_size;
-      min = space.min;
-      max = max;
+      inner = record { min = min; max = max };
       size = size;
-      outer_max = outer_max;
+      outer = record { min = min; max = outer_max };
       max_offset = minus content_size size;
       content_is_too_large = direction_enabled && lt (ceil_of limit) content_size;
     }

@@ -1,7 +1,7 @@
 -- What both halves of a frame ask of points, rectangles and options.
 use Rattle.std.specs.Prelude.{Option, Some, None, is_some}
 use Rattle.area.specs.declared.state.ScrollingToTarget.{ScrollingToTarget}
-use Rattle.std.specs.Prelude.{ℕ, Bool, true, false, cond, ◌==◌}
+use Rattle.std.specs.Prelude.{Bool, false, cond}
 use Rattle.std.specs.Prelude.{Float}
 use Rattle.numbers.specs.Shape.{intersect_of, rect_contains_of}
 use Rattle.numbers.specs.declared.shape.Pos2.{Pos2}

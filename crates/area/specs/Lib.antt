@@ -6,6 +6,7 @@ pub mod State
 pub mod Layout
 pub mod Fields
 pub mod Frame
+pub mod Parts
 pub mod Clock
 pub mod Checks
 pub mod Marks

@@ -16,7 +16,7 @@ use Rattle.area.specs.Moved.{is_moved_by_words}
 use Rattle.area.specs.declared.state.State.{State}
 use Rattle.area.specs.Outcome.{Answer}
 use Rattle.area.specs.declared.settling_run.SettlingRun.{SettlingRun}
-use Rattle.refusals.specs.Refusal.{number_or_0}
+use Rattle.refusals.specs.Refusal.{number_in}
 
 -- the refusal or 0, the frames used, and the state after them
 pub record Settled : Type 0 where
@@ -26,7 +26,7 @@ pub record Settled : Type 0 where
 
 -- what the code answers, in these words
 abbrev pub settled_in : SettlingRun → Settled
-settled_in r = record { refusal = number_or_0 r.refusal; used = r.used; state = r.state }
+settled_in r = record { refusal = number_in r.ended; used = r.used; state = r.state }
 
 -- ---- what is turned back up front
 

@@ -9,7 +9,8 @@ use Rattle.area.specs.Fields.{Frame}
 use Rattle.area.specs.Fields.{Settings}
 use Rattle.area.specs.declared.prepared.AxisSpace.{AxisSpace}
 use Rattle.area.specs.Pair.{num, flag}
-use Rattle.numbers.specs.Shape.{along_of}
+use Rattle.numbers.specs.Range.{intersection_of}
+use Rattle.numbers.specs.Shape.{along_of, from_x_y_ranges_of}
 use Rattle.area.specs.Geometry.{shows_bar}
 
 -- "show_bars.to_vec2().yx() * scroll_style.allocated_width()"
@@ -50,18 +51,14 @@ inner_size_of direction_enabled size min_scrolled_size = cond direction_enabled 
 abbrev pub inner_side : Rangef → Float → Rangef
 inner_side available inner_size = record { min = available.min; max = plus available.min inner_size }
 
--- "content_clip_rect = content_clip_rect.intersect(ui.clip_rect())"
-unfoldable pub intersect_side_of : Rangef → Rangef → Rangef
-intersect_side_of a b = record { min = max_of a.min b.min; max = min_of a.max b.max }
-
 -- "Nice handling of forced resizing beyond the possible": "ui.clip_rect().max[d] - current_bar_use[d]"
 abbrev pub clip_less_bar : Float → Rangef → Rangef
 clip_less_bar bar_use clip = record { min = clip.min; max = minus clip.max bar_use }
 
--- content_clip_rect, "Clip the content, but only when we really need to"
+-- content_clip_rect, "Clip the content, but only when we really need to"; "content_clip_rect = content_clip_rect.intersect(ui.clip_rect())"
 unfoldable pub content_clip_of : Bool → Rangef → Float → Rangef → Rangef
 content_clip_of direction_enabled inner bar_use clip =
-    cond direction_enabled (intersect_side_of inner clip) (intersect_side_of (clip_less_bar bar_use clip) clip)
+    cond direction_enabled (intersection_of inner clip) (intersection_of (clip_less_bar bar_use clip) clip)
 
 -- the space of one axis, by direction_enabled, max_size, min_scrolled_size, current_bar_use, available_outer and ui.clip_rect()
 unfoldable pub space_by : Bool → Float → Float → Float → Rangef → Rangef → AxisSpace
@@ -69,15 +66,7 @@ space_by direction_enabled max_size min_scrolled_size bar_use available clip =
     let size = minus (outer_size available max_size) bar_use in
     let inner_size = inner_size_of direction_enabled size min_scrolled_size in
     let inner = inner_side available inner_size in
-    let content_clip = content_clip_of direction_enabled inner bar_use clip in
-    record {
-      bar_use = bar_use;
-      inner_size = inner_size;
-      min = inner.min;
-      max = inner.max;
-      clip_min = content_clip.min;
-      clip_max = content_clip.max;
-    }
+    record { bar_use = bar_use; inner_size = inner_size; inner = inner; clip = content_clip_of direction_enabled inner bar_use clip }
 
 -- the space of axis d, where the other axis's bar was shown or not
 unfoldable pub space_of : Frame → Bool → ℕ → ℕ → AxisSpace
@@ -92,4 +81,4 @@ space_of f was_shown d e =
 
 -- inner_rect, of both axes' spaces
 unfoldable pub inner_rect : AxisSpace → AxisSpace → Rect
-inner_rect x y = record { min = record { x = x.min; y = y.min }; max = record { x = x.max; y = y.max } }
+inner_rect x y = from_x_y_ranges_of x.inner y.inner

@@ -1,7 +1,7 @@
 -- Checks 2 to 5 in one walk over the words, in order: after the first n words, how many they are, and the number kept, "the lowest of
 -- 2 to 5 that these alone show, or 0".
 use Rattle.std.specs.Prelude.{◌≡◌, ℕ, zero, suc, ◌/◌, ◌<◌, ◌≤◌, true, cond, not, List, length, ◌==◌, nat_lt}
-use Rattle.refusals.specs.Refusal.{number_or_0}
+use Rattle.refusals.specs.Refusal.{number_in}
 use Rattle.area.specs.declared.sweep.Swept as Code
 use Rattle.area.specs.Frame.{word_no}
 use Rattle.area.specs.Checks.{shows_no, any_shows, lowest_where, frame_refusal}
@@ -13,7 +13,7 @@ pub record Swept : Type 0 where
   pub kept : ℕ
 
 abbrev pub numbers_of : Code.Swept → Swept
-numbers_of r = record { count = r.count; kept = number_or_0 r.kept }
+numbers_of r = record { count = r.count; kept = number_in r.kept }
 
 -- the lowest of 2 to 5 that one of the first n words shows, or 0
 unfoldable pub lowest_of : List ℕ → ℕ → ℕ

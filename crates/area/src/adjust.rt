@@ -7,7 +7,7 @@ use crate::fields::{ScrollAnimation, ScrollTarget};
 use crate::frame::Frame;
 use crate::prepared::{AxisMotion, AxisSpace};
 use crate::state::ScrollingToTarget;
-use numbers::{Align, Axis, Rangef, abs, clamp, lerp, min, remap, widen};
+use numbers::{Align, Axis, Rangef, abs, lerp, min, remap, widen};
 
 // One axis of the visible window that a target is brought into: where the content starts, the clip's side, and the space
 // to leave around the target.
@@ -34,55 +34,51 @@ pub struct Adjusted {
     pub had_explicit_scroll_adjustment: bool,
 }
 
-// Scrolls one axis as its content asks: not at all, at once, or by a target that later frames follow.
-#[tactic(auto, unfolding(crate::specs::Adjust::adjusted_of, crate::specs::Adjust::view_of, crate::specs::Adjust::asked_at))]
+// Scrolls one axis as its content asks: not at all, at once, or by a target that later frames follow. An axis that is not enabled drops
+// what its content asks for.
+#[tactic(auto, unfolding(crate::specs::Adjust::adjusted_of, crate::specs::Adjust::adjusted_by))]
 pub fn adjust_axis(frame: &Frame, d: Axis, space: AxisSpace, motion: AxisMotion) -> Adjusted
     ensures { result ≡ Spec.adjusted_of frame.now (index_of d) space motion }
 {
-    // A target's range is in the ui's coordinates, as the clip's side is.
-    let view = AxisView {
-        min: frame.content_min(d),
-        clip_start: space.clip_min,
-        clip_end: space.clip_max,
-        spacing: frame.item_spacing(d),
-    };
     // Seen from the offset that `begin` left.
-    let asked = ask(
-        frame.target_request(d),
-        frame.scroll_delta(d),
-        frame.scroll_delta_animation(),
-        view,
-        motion.offset,
-    );
-    adjust_by(
+    let asked = ask(frame, d, space, motion.offset);
+    if frame.direction_enabled(d) & (asked.delta != 0.0) {
+        return move_by(motion, asked, frame.animated(), frame.time());
+    }
+    Adjusted {
         motion,
-        asked,
-        frame.direction_enabled(d),
-        frame.animated(),
-        frame.time(),
-    )
+        had_explicit_scroll_adjustment: false,
+    }
 }
 
 // A scroll delta points against the offset, so it is negated; a target adds to it, and its animation counts.
-#[tactic(auto, unfolding(crate::specs::Adjust::asked_of))]
-fn ask(
-    request: Option<ScrollTarget>,
-    scroll_delta: f32,
-    scroll_animation: ScrollAnimation,
-    view: AxisView,
-    offset: f32,
-) -> AskedDelta
-    ensures { result ≡ Spec.asked_of request scroll_delta scroll_animation view offset }
+#[tactic(auto, unfolding(crate::specs::Adjust::asked_at, crate::specs::Adjust::asked_of))]
+fn ask(frame: &Frame, d: Axis, space: AxisSpace, offset: f32) -> AskedDelta
+    ensures { result ≡ Spec.asked_at frame.now (index_of d) space offset }
 {
-    match request {
+    let delta = -frame.scroll_delta(d);
+    match frame.target_request(d) {
         None => AskedDelta {
-            delta: -scroll_delta,
-            animation: scroll_animation,
+            delta,
+            animation: frame.scroll_delta_animation(),
         },
         Some(target) => AskedDelta {
-            delta: -scroll_delta + delta_update(target, view, offset),
+            delta: delta + delta_update(target, view_of(frame, d, space), offset),
             animation: target.animation,
         },
+    }
+}
+
+// A target's range is in the ui's coordinates, as the clip's side is.
+#[tactic(auto, unfolding(crate::specs::Adjust::view_of))]
+fn view_of(frame: &Frame, d: Axis, space: AxisSpace) -> AxisView
+    ensures { result ≡ Spec.view_of frame.now (index_of d) space }
+{
+    AxisView {
+        min: frame.content_min(d),
+        clip_start: space.clip.min,
+        clip_end: space.clip.max,
+        spacing: frame.item_spacing(d),
     }
 }
 
@@ -128,26 +124,6 @@ fn into_view_delta(range: Rangef, view: AxisView) -> f32
         );
     }
     0.0
-}
-
-// An axis that is not enabled drops what its content asks for.
-#[tactic(auto, unfolding(crate::specs::Adjust::adjusted_by))]
-fn adjust_by(
-    motion: AxisMotion,
-    asked: AskedDelta,
-    enabled: bool,
-    animated: bool,
-    now: f64,
-) -> Adjusted
-    ensures { result ≡ Spec.adjusted_by motion asked enabled animated now }
-{
-    if enabled & (asked.delta != 0.0) {
-        return move_by(motion, asked, animated, now);
-    }
-    Adjusted {
-        motion,
-        had_explicit_scroll_adjustment: false,
-    }
 }
 
 // Without animation the offset jumps, and a target under way stays and goes on in the next frame.
@@ -203,11 +179,9 @@ fn retarget(
 fn duration_of(asked: AskedDelta) -> f32
     ensures { result ≡ Spec.animation_duration asked.delta asked.animation }
 {
-    let animation = asked.animation;
-    let duration = animation.duration;
-    clamp(
-        abs(asked.delta) / animation.points_per_second,
-        duration.min,
-        duration.max,
-    )
+    let ScrollAnimation {
+        points_per_second,
+        duration,
+    } = asked.animation;
+    duration.clamp(abs(asked.delta) / points_per_second)
 }

@@ -5,7 +5,7 @@ ghost use Rattle.numbers.specs.Table.{table_of};
 ghost use Rattle.area.specs.Begin as Spec;
 
 use crate::axis_physics::physics_of;
-use crate::drive::{AxisInput, before_of, drive, open_motion};
+use crate::drive::{AxisDrive, AxisInput, before_of, open_motion};
 use crate::fields::DragScroll;
 use crate::follow::follow;
 use crate::frame::Frame;
@@ -113,8 +113,12 @@ fn begin_axis(
         dt,
         hold_overscroll: hold,
     };
-    let driven = drive(motion, physics, input, table);
-    follow(driven, frame.time(), dt)
+    let drive = AxisDrive {
+        motion,
+        physics,
+        input,
+    };
+    follow(drive.drive(table), frame.time(), dt)
 }
 
 // Whether content can be dragged at all; in the first frame there is no rectangle yet to take hold of.

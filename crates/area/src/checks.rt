@@ -6,11 +6,11 @@ ghost use Rattle.area.specs.Frame.{frame_of};
 ghost use Rattle.area.specs.Checks as Spec;
 
 use crate::clock::check_clock;
-use crate::frame::Frame;
+use crate::frame::{FRAME, Frame};
 use crate::state::{ScrollingToTarget, State};
 use crate::sweep::sweep_words;
 use numbers::Finite;
-use refusals::Refusal;
+use refusals::{Refusal, refuse};
 
 // The frame, unless one of 1 to 6 and 12 applies.
 #[tactic(auto, using(refusals::proofs::Refused::not_0), unfolding(crate::specs::Checks::refusal_before7, crate::specs::Clock::clock_refusal, crate::specs::Frame::frame_of, crate::specs::Frame::host_of))]
@@ -24,8 +24,9 @@ pub fn check_before_7<'a>(bytes: &'a [u8], state: State) -> Result<Frame<'a>, Re
 }
 
 // The frame's bytes, unless one of 1 to 6 applies.
+// Stays: bytes and no Frame, here and in check_frame and check_run. A settling run writes the next time into a copy of them.
 #[tactic(auto, using(refusals::proofs::Refused::not_0), unfolding(crate::specs::Checks::refusal_of))]
-pub fn check<'a>(bytes: &'a [u8], state: State) -> Result<&'a [u8; 416], Refusal>
+pub fn check<'a>(bytes: &'a [u8], state: State) -> Result<&'a [u8; FRAME], Refusal>
     ensures refuses { number_in result ≡ Spec.refusal_of bytes.now state }
     ensures keeps { IfOk result (λ frame. frame.now ≡ bytes.now) }
 {
@@ -35,18 +36,17 @@ pub fn check<'a>(bytes: &'a [u8], state: State) -> Result<&'a [u8; 416], Refusal
 }
 
 // The frame's bytes, unless one of 1 to 5 applies: what the walk over all words keeps.
+// Stays: the length is asked here and in the walk, which is public for bytes of any length.
 #[tactic(auto, using(crate::proofs::CallLaws::wrong_length))]
-pub fn check_frame<'a>(bytes: &'a [u8]) -> Result<&'a [u8; 416], Refusal>
+pub fn check_frame<'a>(bytes: &'a [u8]) -> Result<&'a [u8; FRAME], Refusal>
     ensures refuses { number_in result ≡ Spec.frame_refusal bytes.now }
     ensures keeps { IfOk result (λ frame. frame.now ≡ bytes.now) }
 {
-    let Ok(frame) = <&[u8; 416]>::try_from(bytes) else {
+    let Ok(frame) = <&[u8; FRAME]>::try_from(bytes) else {
         return Err(Refusal::FrameLength);
     };
-    match sweep_words(bytes, 104).kept {
-        None => Ok(frame),
-        Some(refusal) => Err(refusal),
-    }
+    sweep_words(bytes, 104).kept?;
+    Ok(frame)
 }
 
 // Check 6.
@@ -54,10 +54,7 @@ pub fn check_frame<'a>(bytes: &'a [u8]) -> Result<&'a [u8; 416], Refusal>
 fn check_state(state: State) -> Result<(), Refusal>
     ensures { number_in result ≡ Spec.state_refusal state }
 {
-    if state.all_finite() {
-        return Ok(());
-    }
-    Err(Refusal::State)
+    refuse(!state.all_finite(), Refusal::State)
 }
 
 impl Finite for ScrollingToTarget {

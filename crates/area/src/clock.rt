@@ -10,16 +10,13 @@ ghost use Rattle.area.specs.Lists.{ResetSays};
 use crate::frame::Frame;
 use crate::state::State;
 use numbers::Ieee;
-use refusals::Refusal;
+use refusals::{Refusal, refuse};
 
 // Check 12.
 pub fn check_clock(frame: &Frame, state: State) -> Result<(), Refusal>
     ensures { number_in result ≡ Spec.refusal_at frame.now.host.time state }
 {
-    if frame.time() < state.remembered_time {
-        return Err(Refusal::Clock);
-    }
-    Ok(())
+    refuse(frame.time() < state.remembered_time, Refusal::Clock)
 }
 
 // Clears the remembered time and nothing else, so that 12 refuses no frame until one is accepted.

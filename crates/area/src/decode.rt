@@ -1,12 +1,14 @@
 // What a word or some words in a row stand for. They are numbered from 1, as in the document.
-ghost use Rattle.std.specs.Prelude.{◌≡◌, ℕ, ◌+◌, List, from_bits, ◌==◌, slice_index_or};
+ghost use Rattle.std.specs.Prelude.{◌≡◌, ℕ, ◌+◌, List, [], ◌∷◌, from_bits, ◌==◌, slice_index_or};
 ghost use Rattle.std.specs.Float.{binary32};
 ghost use Rattle.numbers.specs.Axis.{index_of};
 ghost use Rattle.axis.specs.Wheel.{source_of};
 ghost use Rattle.area.specs.Frame as Spec;
+ghost use Rattle.area.specs.Parts as Parts;
 
 use crate::fields::{BarResponse, DragScroll, ScrollAnimation, ScrollBarVisibility, ScrollTarget};
-use axis::WheelSource;
+use crate::state::ScrollingToTarget;
+use axis::{AxisPhysics, KineticScrollStyle, WheelScroll, WheelSource};
 use numbers::{Align, Axis, Ieee, Pos2, Rangef, Rect};
 
 // Word n.
@@ -108,6 +110,17 @@ pub fn kind_along<T: OfWord>(s: &[u8], n: u32, d: Axis) -> T
     }
 }
 
+// What the words of axis d stand for: those from word x on, or from word y on.
+pub fn words_along<T: FromWords>(s: &[u8], x: u32, y: u32, d: Axis) -> T
+    requires { Spec.Holds s.now x T.more × Spec.Holds s.now y T.more }
+    ensures { (otherwise : _) → result ≡ slice_index_or (T.read s.now x ∷ T.read s.now y ∷ []) (index_of d) otherwise }
+{
+    match d {
+        Axis::X => T::at(s, x),
+        Axis::Y => T::at(s, y),
+    }
+}
+
 // Stays: `Holds` at each reading. A record of another length is read by the same functions as a frame, so no length stands in the type.
 // What words in a row stand for, from word n on; `more` is how many there are after the first.
 pub trait FromWords: Copy {
@@ -150,9 +163,7 @@ impl FromWords for f64 {
 
     #[tactic(auto, unfolding(crate::specs::Frame::time_no))]
     fn at(s: &[u8], n: u32) -> Self {
-        let low = word_at(s, n);
-        let high = word_at(s, n + 1);
-        f64::of_bits(u64::from(high) * 4294967296 + u64::from(low))
+        f64::of_bits(words::long_of(word_at(s, n), word_at(s, n + 1)))
     }
 }
 
@@ -265,6 +276,68 @@ impl FromWords for ScrollTarget {
             range: Rangef::at(s, n),
             align: kind_at(s, n + 2),
             animation: ScrollAnimation::at(s, n + 3),
+        }
+    }
+}
+
+impl FromWords for ScrollingToTarget {
+    ghost more = { 4 };
+
+    ghost read = { Parts.target_no };
+
+    #[tactic(auto, unfolding(crate::specs::Parts::target_no))]
+    fn at(s: &[u8], n: u32) -> Self {
+        ScrollingToTarget {
+            start: f64::at(s, n),
+            end: f64::at(s, n + 2),
+            target_offset: f32::at(s, n + 4),
+        }
+    }
+}
+
+impl FromWords for KineticScrollStyle {
+    ghost more = { 2 };
+
+    ghost read = { Parts.kinetic_no };
+
+    #[tactic(auto, unfolding(crate::specs::Parts::kinetic_no))]
+    fn at(s: &[u8], n: u32) -> Self {
+        KineticScrollStyle {
+            decay_time: f32::at(s, n),
+            stop_distance: f32::at(s, n + 1),
+            rubber_band: bool::at(s, n + 2),
+        }
+    }
+}
+
+// As in a call on one axis.
+impl FromWords for AxisPhysics {
+    ghost more = { 5 };
+
+    ghost read = { Parts.axis_no };
+
+    #[tactic(auto, unfolding(crate::specs::Parts::axis_no))]
+    fn at(s: &[u8], n: u32) -> Self {
+        AxisPhysics {
+            bounds: Rangef::at(s, n),
+            viewport_extent: f32::at(s, n + 2),
+            style: KineticScrollStyle::at(s, n + 3),
+        }
+    }
+}
+
+impl FromWords for WheelScroll {
+    ghost more = { 3 };
+
+    ghost read = { Parts.scroll_no };
+
+    #[tactic(auto, unfolding(crate::specs::Parts::scroll_no))]
+    fn at(s: &[u8], n: u32) -> Self {
+        WheelScroll {
+            delta: f32::at(s, n),
+            source: kind_at(s, n + 1),
+            can_chain_to_parent: bool::at(s, n + 2),
+            dt: f32::at(s, n + 3),
         }
     }
 }

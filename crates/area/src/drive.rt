@@ -23,6 +23,14 @@ pub struct AxisInput {
     pub hold_overscroll: bool,
 }
 
+// One axis before drag or step: its motion, what moves it by itself, and what the hand does.
+#[derive(Clone, Copy, Debug, PartialEq)]
+pub struct AxisDrive {
+    pub motion: AxisMotion,
+    pub physics: AxisPhysics,
+    pub input: AxisInput,
+}
+
 // The motion of axis d, from where the host puts it.
 #[tactic(auto, unfolding(crate::specs::Drive::opened_of, crate::specs::Drive::given_offset_or))]
 pub fn open_motion(frame: &Frame, state: State, d: Axis) -> AxisMotion
@@ -51,70 +59,85 @@ pub fn before_of(state: State, d: Axis) -> AxisBefore
     }
 }
 
-// The content goes with the hand; let alone, it coasts or springs back.
-#[tactic(auto, unfolding(crate::specs::Drive::driven_of))]
-pub fn drive(motion: AxisMotion, physics: AxisPhysics, input: AxisInput, table: &[u8]) -> AxisBegun
-    ensures { result ≡ Spec.driven_of (table_of table.now) motion physics input }
-{
-    if input.dragged {
-        return drag_axis(motion, physics, input);
+impl AxisDrive {
+    // The content goes with the hand; let alone, it coasts or springs back.
+    #[tactic(auto, unfolding(crate::specs::Drive::driven_of))]
+    pub fn drive(self, table: &[u8]) -> AxisBegun
+        ensures { result ≡ Spec.driven_of (table_of table.now) self.motion self.physics self.input }
+    {
+        if self.input.dragged {
+            self.drag()
+        } else {
+            self.step(table)
+        }
     }
-    step_axis(motion, physics, input, table)
-}
 
-// A drag ends a target under way and the sticking, but keeps the velocity.
-#[tactic(auto, unfolding(crate::specs::Drive::dragged_of))]
-fn drag_axis(motion: AxisMotion, physics: AxisPhysics, input: AxisInput) -> AxisBegun
-    ensures { result ≡ Spec.dragged_of motion physics input }
-{
-    if input.direction_enabled {
-        // The offset grows as the pointer goes back.
-        let offset = physics.drag(motion.offset, -input.pointer_delta);
-        let rubber_banding = physics.is_rubber_banding(offset);
-        return AxisBegun {
+    // A drag ends a target under way and the sticking, but keeps the velocity.
+    #[tactic(auto, unfolding(crate::specs::Drive::dragged_of))]
+    fn drag(self) -> AxisBegun
+        ensures { result ≡ Spec.dragged_of self.motion self.physics self.input }
+    {
+        let AxisDrive {
+            motion,
+            physics,
+            input,
+        } = self;
+        if input.direction_enabled {
+            // The offset grows as the pointer goes back.
+            let offset = physics.drag(motion.offset, -input.pointer_delta);
+            let rubber_banding = physics.is_rubber_banding(offset);
+            return AxisBegun {
+                motion: AxisMotion {
+                    offset,
+                    offset_target: None,
+                    scroll_stuck_to_end: false,
+                    ..motion
+                },
+                rubber_banding,
+                repaint: false,
+            };
+        }
+        AxisBegun {
+            motion,
+            rubber_banding: false,
+            repaint: false,
+        }
+    }
+
+    // Both axes step, also one that is not enabled.
+    #[tactic(auto, unfolding(crate::specs::Drive::stepped_of))]
+    fn step(self, table: &[u8]) -> AxisBegun
+        ensures { result ≡ Spec.stepped_of (table_of table.now) self.motion self.physics self.input }
+    {
+        let AxisDrive {
+            motion,
+            physics,
+            input,
+        } = self;
+        let vel = input.released(motion.vel);
+        let stepped = physics.step_by(motion.offset, vel, input.dt, input.hold_overscroll, table);
+        let rubber_banding = physics.is_rubber_banding(stepped.offset);
+        AxisBegun {
             motion: AxisMotion {
-                offset,
-                offset_target: None,
-                scroll_stuck_to_end: false,
+                offset: stepped.offset,
+                vel: stepped.vel,
                 ..motion
             },
             rubber_banding,
-            repaint: false,
-        };
-    }
-    AxisBegun {
-        motion,
-        rubber_banding: false,
-        repaint: false,
+            repaint: stepped.moving,
+        }
     }
 }
 
-// Both axes step, also one that is not enabled.
-#[tactic(auto, unfolding(crate::specs::Drive::stepped_of))]
-fn step_axis(motion: AxisMotion, physics: AxisPhysics, input: AxisInput, table: &[u8]) -> AxisBegun
-    ensures { result ≡ Spec.stepped_of (table_of table.now) motion physics input }
-{
-    let vel = released(input, motion.vel);
-    let stepped = physics.step_by(motion.offset, vel, input.dt, input.hold_overscroll, table);
-    let rubber_banding = physics.is_rubber_banding(stepped.offset);
-    AxisBegun {
-        motion: AxisMotion {
-            offset: stepped.offset,
-            vel: stepped.vel,
-            ..motion
-        },
-        rubber_banding,
-        repaint: stepped.moving,
+impl AxisInput {
+    // Letting go throws the content with the pointer's speed; an axis that is not enabled stops.
+    #[tactic(auto, unfolding(crate::specs::Drive::released_of))]
+    fn released(self, vel: f32) -> f32
+        ensures { result ≡ Spec.released_of self vel }
+    {
+        if self.drag_stopped {
+            return -(flag_as_number(self.direction_enabled) * self.pointer_velocity);
+        }
+        vel
     }
-}
-
-// Letting go throws the content with the pointer's speed; an axis that is not enabled stops.
-#[tactic(auto, unfolding(crate::specs::Drive::released_of))]
-fn released(input: AxisInput, vel: f32) -> f32
-    ensures { result ≡ Spec.released_of input vel }
-{
-    if input.drag_stopped {
-        return -(flag_as_number(input.direction_enabled) * input.pointer_velocity);
-    }
-    vel
 }

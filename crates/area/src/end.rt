@@ -15,7 +15,7 @@ use crate::prepared::{AxisBefore, AxisBegun, AxisSpace, Prepared};
 use crate::state::{ScrollingToTarget, State};
 use crate::stick::stick_axis;
 use crate::wheel_turn::{Turned, WheelHeard, hear_wheel, turn_axis};
-use numbers::{Axis, Pos2, Rangef, Rect};
+use numbers::{Axis, Rect};
 
 // One axis at the end of a frame.
 #[derive(Clone, Copy, Debug, PartialEq)]
@@ -95,6 +95,7 @@ pub fn end(frame: &Frame, state: State, prepared: Prepared) -> Ended
 }
 
 // One axis through all stages; of the other axis only the space matters.
+// Stays: `before` beside frame and axis. It is a row of the state, and a struct of the three would be taken apart in each clause.
 #[tactic(auto, unfolding(crate::specs::End::axis_ended_of))]
 fn end_axis(
     frame: &Frame,
@@ -193,14 +194,11 @@ impl From<Extents> for BarSpace {
     fn from(extents: Extents) -> Self {
         BarSpace {
             content_size: extents.this.content_size,
-            inner: Rangef {
-                min: extents.this.min,
-                max: extents.this.max,
-            },
+            inner: extents.this.inner,
             inner_size: extents.this.size,
             max_offset: extents.this.max_offset,
-            cross_inner_max: extents.other.max,
-            cross_outer_max: extents.other.outer_max,
+            cross_inner_max: extents.other.inner.max,
+            cross_outer_max: extents.other.outer.max,
         }
     }
 }
@@ -210,23 +208,14 @@ impl From<Extents> for BarSpace {
 pub fn shrunk_rect_of(x: AxisExtent, y: AxisExtent) -> Rect
     ensures { result ≡ Spec.shrunk_rect_of x y }
 {
-    Rect {
-        min: Pos2 { x: x.min, y: y.min },
-        max: Pos2 { x: x.max, y: y.max },
-    }
+    Rect::from_x_y_ranges(x.inner, y.inner)
 }
 
 #[tactic(auto, unfolding(crate::specs::End::outer_rect_of))]
 fn outer_rect_of(x: AxisExtent, y: AxisExtent) -> Rect
     ensures { result ≡ Spec.outer_rect_of x y }
 {
-    Rect {
-        min: Pos2 { x: x.min, y: y.min },
-        max: Pos2 {
-            x: x.outer_max,
-            y: y.outer_max,
-        },
-    }
+    Rect::from_x_y_ranges(x.outer, y.outer)
 }
 
 // Check 7, on either axis.

@@ -1,23 +1,27 @@
 // A frame that a host hands in, by its bytes: seen, it is what its words stand for. Each field is read from its own words.
-ghost use Rattle.std.specs.Prelude.{◌≡◌, length, slice_index_or};
+ghost use Rattle.std.specs.Prelude.{◌≡◌, slice_index_or};
 ghost use Rattle.numbers.specs.Axis.{index_of};
 ghost use Rattle.area.specs.Pair.{num, flag};
 ghost use Rattle.area.specs.Space.{side_of};
 ghost use Rattle.area.specs.Bar.{no_response};
 ghost use Rattle.area.specs.Drive.{no_given_offset};
 ghost use Rattle.area.specs.Adjust.{request_at};
-ghost use Rattle.area.specs.Frame.{frame_of};
+ghost use Rattle.area.specs.Frame.{Whole, frame_of};
 ghost use Rattle.area.specs.Fields as Fields;
 
-use crate::decode::{FromWords, kind_along, kind_at};
+use crate::decode::{FromWords, kind_along, kind_at, words_along};
 use crate::fields::{BarResponse, DragScroll, ScrollAnimation, ScrollBarVisibility, ScrollTarget};
 use crate::geometry::side_of;
 use axis::{KineticScrollStyle, WheelSource};
-use numbers::{Axis, Pos2, Rangef, Rect};
+use numbers::{Axis, Pos2, Rangef, Rect, along};
 use std::marker::Model;
+
+/// The bytes of a frame.
+pub const FRAME: usize = 416;
 
 #[derive(Drop)]
 pub struct Frame<'a> {
+    // Stays: a slice, whose length the invariant has. An array's reference would be copied first in each reader, as in Walk::word.
     bytes: &'a [u8],
 }
 
@@ -26,17 +30,17 @@ impl<'a> Model for Frame<'a> {
 
     ghost view = { λ frame. frame_of frame.bytes.now };
 
-    ghost invariant = { λ frame. length frame.bytes.now ≡ 416 };
+    ghost invariant = { λ frame. Whole frame.bytes.now };
 }
 
 impl<'a> Frame<'a> {
-    pub fn new(bytes: &'a [u8; 416]) -> Self
+    pub fn new(bytes: &'a [u8; FRAME]) -> Self
         ensures { result ≡ frame_of bytes.now }
     {
         Frame { bytes }
     }
 
-    // Stays: d beside the frame. `frame.max_size(d)` is the Rust's `max_size[d]`; a struct of both would hide the axis.
+    // Stays: d beside the frame, as the Rust indexes `max_size[d]`. Definitions take both, and a struct would be taken apart in each clause.
 
     // ---- how the scroll area was built
 
@@ -86,10 +90,7 @@ impl<'a> Frame<'a> {
     pub fn given_offset(&self, d: Axis) -> Option<f32>
         ensures { result ≡ slice_index_or self.now.settings.offset (index_of d) no_given_offset }
     {
-        match d {
-            Axis::X => Option::at(self.bytes, 15),
-            Axis::Y => Option::at(self.bytes, 17),
-        }
+        words_along(self.bytes, 15, 17, d)
     }
 
     #[tactic(auto, unfolding(crate::specs::Frame::frame_of, crate::specs::Frame::settings_of))]
@@ -192,15 +193,11 @@ impl<'a> Frame<'a> {
         bool::at(self.bytes, 36)
     }
 
-    #[tactic(auto, unfolding(crate::specs::Frame::frame_of, crate::specs::Frame::style_of))]
+    #[tactic(auto, unfolding(crate::specs::Frame::frame_of, crate::specs::Frame::style_of, crate::specs::Parts::kinetic_no))]
     pub fn kinetic(&self) -> KineticScrollStyle
         ensures { result ≡ self.now.style.kinetic }
     {
-        KineticScrollStyle {
-            decay_time: f32::at(self.bytes, 37),
-            stop_distance: f32::at(self.bytes, 38),
-            rubber_band: bool::at(self.bytes, 39),
-        }
+        KineticScrollStyle::at(self.bytes, 37)
     }
 
     // ---- what the Rust reads from Ui, Context and Response
@@ -223,7 +220,7 @@ impl<'a> Frame<'a> {
     pub fn clip_side(&self, d: Axis) -> Rangef
         ensures { result ≡ side_of self.now.host.clip (index_of d) }
     {
-        side_of(Rect::at(self.bytes, 44), d)
+        side_of(self.clip(), d)
     }
 
     #[tactic(auto, unfolding(crate::specs::Frame::frame_of, crate::specs::Frame::host_of))]
@@ -335,10 +332,7 @@ impl<'a> Frame<'a> {
     pub fn bar_response(&self, d: Axis) -> BarResponse
         ensures { result ≡ slice_index_or self.now.host.bars (index_of d) no_response }
     {
-        match d {
-            Axis::X => BarResponse::at(self.bytes, 72),
-            Axis::Y => BarResponse::at(self.bytes, 77),
-        }
+        words_along(self.bytes, 72, 77, d)
     }
 
     // ---- what was put into the area in this frame
@@ -354,7 +348,7 @@ impl<'a> Frame<'a> {
     pub fn content_size_along(&self, d: Axis) -> f32
         ensures { result ≡ num self.now.content.size (index_of d) }
     {
-        kind_along(self.bytes, 82, d)
+        along(self.content_size(), d)
     }
 
     #[tactic(auto, unfolding(crate::specs::Frame::frame_of, crate::specs::Frame::content_of, crate::specs::Frame::pair_no, crate::specs::Frame::number_no, crate::specs::Frame::both_no))]
@@ -382,9 +376,6 @@ impl<'a> Frame<'a> {
     pub fn target_request(&self, d: Axis) -> Option<ScrollTarget>
         ensures { result ≡ request_at self.now.content.targets (index_of d) }
     {
-        match d {
-            Axis::X => Option::at(self.bytes, 91),
-            Axis::Y => Option::at(self.bytes, 98),
-        }
+        words_along(self.bytes, 91, 98, d)
     }
 }

@@ -5,7 +5,7 @@ ghost use Rattle.area.specs.Handle as Spec;
 
 use crate::frame::Frame;
 use crate::geometry::side_of;
-use numbers::{Axis, Pos2, Rangef, Rect, lerp, max, remap_clamp};
+use numbers::{Axis, Rangef, Rect, lerp, max, remap_clamp};
 
 // What a bar needs of the space of its axis, and of the other axis the ends of the inner and the outer rectangle.
 #[derive(Clone, Copy, Debug, PartialEq)]
@@ -157,16 +157,12 @@ impl Track {
 }
 
 // The handle's rectangle from its two sides.
-#[tactic(auto, unfolding(crate::specs::Handle::handle_rect_of))]
+#[tactic(auto, unfolding(crate::specs::Handle::handle_rect_of, numbers::specs::Shape::from_x_y_ranges_of))]
 pub fn handle_rect_of(handle: Rangef, cross: Rangef, d: Axis) -> Rect
     ensures { result ≡ Spec.handle_rect_of handle cross (index_of d) }
 {
-    let (x, y) = match d {
-        Axis::X => (handle, cross),
-        Axis::Y => (cross, handle),
-    };
-    Rect {
-        min: Pos2 { x: x.min, y: y.min },
-        max: Pos2 { x: x.max, y: y.max },
+    match d {
+        Axis::X => Rect::from_x_y_ranges(handle, cross),
+        Axis::Y => Rect::from_x_y_ranges(cross, handle),
     }
 }

@@ -1,5 +1,5 @@
-// A scroll area: its state, the frame that a host hands in, and the checks on both.
-// Stays: state, bytes and table apart. They are the operands of one call, and a struct of them would be built for it and taken apart in it.
+// A scroll area: its state, the frame that a host hands in, the checks on both, the frame call, and runs and lists of frames.
+// Stays: state, bytes and table apart. They are the operands of one call and of its law, and a struct of them would be built for each call.
 // Stays: a table as bytes of any length. Each public call takes every length, and one of another than 8,200 stands for T.
 #![tactic(auto)]
 
@@ -40,7 +40,7 @@ pub use checks::{check_before_7, check_frame};
 pub use clock::{put_time, reset, reset_lent};
 pub use decode::{FromWords, OfWord, kind_at, word_at};
 pub use fields::{BarResponse, DragScroll, ScrollAnimation, ScrollBarVisibility, ScrollTarget};
-pub use frame::Frame;
+pub use frame::{FRAME, Frame};
 pub use lent::{frame_lent, frame_lent_by};
 pub use outcome::{Accepted, Outputs, state_after};
 pub use replays::{Form, call_by, replay};

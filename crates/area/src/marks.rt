@@ -13,7 +13,7 @@ mod shown;
 
 use axis::{is_decay_time_outside, word_exceeds_limit};
 use numbers::{Ieee, is_word_negative};
-use refusals::Refusal;
+use refusals::{Refusal, refuse};
 pub use shown::Shown;
 
 // ---- a kind of word, by its row
@@ -85,6 +85,7 @@ impl Word for SizeOrInfinity {
 }
 
 /// A number from 0 to 1.
+// Stays: three steps, here and in three others. One function with a closure would have a clause about what the closure answers.
 pub struct Factor;
 
 impl Word for Factor {
@@ -154,13 +155,8 @@ pub fn check_end(word: u32, start: u32) -> Result<(), Refusal>
 
 // ---- what is asked of a word
 
-pub fn refuse(fails: bool, refusal: Refusal) -> Result<(), Refusal>
-    ensures { number_in result ≡ (if fails then number_of refusal else 0) }
-{
-    if fails { Err(refusal) } else { Ok(()) }
-}
-
 // Whether a number exceeds its limit. It goes first where more is asked: what passes is a number.
+// Stays: beside Plain's check. Its clause is the one that those who go on are shown by.
 fn limited(word: u32) -> Result<(), Refusal>
     ensures { let exceeds = exceeds_limit (from_bits binary32 word) in MatchResult result (λ _. exceeds ≡ false) (λ refusal. (refusal ≡ Refusal.Exceeds) × (exceeds ≡ true)) }
 {

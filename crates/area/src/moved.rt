@@ -4,12 +4,13 @@ ghost use Rattle.numbers.specs.Axis.{index_of};
 ghost use Rattle.area.specs.Moved as Spec;
 
 use crate::decode::FromWords;
+use crate::frame::FRAME;
 use numbers::Axis;
 
 // An explicit offset, a background drag or its end, a press on its bar, a scroll target, or a scroll delta or wheel delta
 // (on either axis) other than 0.
 #[tactic(auto, unfolding(crate::specs::Moved::is_moved_by_words))]
-pub fn is_moved_by_words(bytes: &[u8; 416], d: Axis) -> bool
+pub fn is_moved_by_words(bytes: &[u8; FRAME], d: Axis) -> bool
     ensures { result ≡ Spec.is_moved_by_words bytes.now (index_of d) }
 {
     let (offset, press, target, delta) = match d {

@@ -1,5 +1,6 @@
 // What `begin` hands to `end`.
 use crate::state::ScrollingToTarget;
+use numbers::Rangef;
 
 // What of the state moves on one axis.
 #[derive(Clone, Copy, Debug, PartialEq)]
@@ -25,13 +26,12 @@ pub struct AxisBefore {
 pub struct AxisSpace {
     pub bar_use: f32,
     pub inner_size: f32,
-    pub min: f32,
-    pub max: f32,
-    pub clip_min: f32,
-    pub clip_max: f32,
+    pub inner: Rangef,
+    pub clip: Rangef,
 }
 
 // One axis after drag or step and the target under way.
+// Stays: rubber_banding beside the motion, here and in later stages. The motion is what is stored, and most stages leave the flag alone.
 #[derive(Clone, Copy, Debug, PartialEq)]
 pub struct AxisBegun {
     pub motion: AxisMotion,
@@ -39,8 +39,7 @@ pub struct AxisBegun {
     pub repaint: bool,
 }
 
-// Stays: x and y by name, here and in what `begin`, `end` and `put_out` do with them. The definitions name them apart, and an array by axis would be
-// taken apart again in each clause.
+// Stays: x and y by name, here and in `begin` and `end`, where each takes the other's bar or extent; in `put_out` a map for each field is no shorter.
 #[derive(Clone, Copy, Debug, PartialEq)]
 pub struct Prepared {
     pub x_space: AxisSpace,

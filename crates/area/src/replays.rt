@@ -6,13 +6,11 @@ ghost use Rattle.area.specs.Lists.{FrameSays};
 ghost use Rattle.area.specs.Replay.{Replayed, other_than, form_of};
 
 use crate::call::frame_by;
+use crate::frame::FRAME;
 use crate::lent::frame_lent_by;
 use crate::outcome::{Accepted, state_after};
 use crate::state::State;
 use refusals::{Refusal, number};
-
-// The bytes of a frame.
-const FRAME: usize = 416;
 
 // How a frame call is handed the state.
 #[derive(Clone, Copy, Debug, PartialEq, Eq)]

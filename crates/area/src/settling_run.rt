@@ -8,22 +8,23 @@ ghost use Rattle.area.specs.Lists.{SettleSays};
 use crate::call::frame_by;
 use crate::checks::check;
 use crate::clock::put_time;
-use crate::frame::Frame;
+use crate::frame::{FRAME, Frame};
 use crate::moved::is_moved_by_words;
 use crate::state::State;
 use numbers::Axis;
-use refusals::Refusal;
+use refusals::{Refusal, refuse};
 
-// What ended it, if not rest or the limit; the frames used, and the state after them.
+// How it ended, at rest or the limit or by a refusal; the frames used, and the state after them.
 #[derive(Clone, Copy, Debug, PartialEq)]
 pub struct SettlingRun {
-    pub refusal: Option<Refusal>,
+    pub ended: Result<(), Refusal>,
     pub used: u32,
     pub state: State,
 }
 
 // By table T; otherwise as settle_by.
-// Stays: increment and limit apart. They are two numbers of the public call, and a struct of them would be built in each caller.
+// Stays: beside settle_by. It is public and goes on promising T, and a caller with no table names none.
+// Stays: increment and limit apart, as in the public calls and in the clauses of all that they call.
 #[tactic(auto, unfolding(numbers::specs::Table::table_of))]
 pub fn settle(state: State, bytes: &[u8], increment: f64, limit: u32) -> SettlingRun
     ensures answers { SettleSays table_at state bytes.now increment limit (Spec.settled_in result) }
@@ -56,7 +57,7 @@ fn run(state: State, bytes: &[u8], increment: f64, limit: u32, table: &[u8]) -> 
     match check_run(state, bytes, increment, limit) {
         Ok(frame) => settle_frames(state, frame, increment, limit, table),
         Err(refusal) => SettlingRun {
-            refusal: Some(refusal),
+            ended: Err(refusal),
             used: 0,
             state,
         },
@@ -70,7 +71,7 @@ pub fn check_run<'a>(
     bytes: &'a [u8],
     increment: f64,
     limit: u32,
-) -> Result<&'a [u8; 416], Refusal>
+) -> Result<&'a [u8; FRAME], Refusal>
     ensures refuses { number_in result ≡ Spec.settle_refusal state bytes.now increment limit }
     ensures keeps { IfOk result (λ frame. frame.now ≡ bytes.now) }
 {
@@ -82,22 +83,19 @@ pub fn check_run<'a>(
 // Check 9.
 // Stays: x and y in one test. It is plainer than an any over the axes.
 #[tactic(auto, unfolding(crate::specs::SettlingRun::run_refusal))]
-fn check_unmoved(frame: &[u8; 416], increment: f64, limit: u32) -> Result<(), Refusal>
+fn check_unmoved(frame: &[u8; FRAME], increment: f64, limit: u32) -> Result<(), Refusal>
     ensures { number_in result ≡ Spec.run_refusal frame.now increment limit }
 {
     let bad_limit = (limit == 0) | (10000 < limit);
     let bad_increment = !((0.0 <= increment) & (increment <= 1.0));
     let is_moved = is_moved_by_words(frame, Axis::X) | is_moved_by_words(frame, Axis::Y);
-    if bad_limit | bad_increment | is_moved {
-        return Err(Refusal::Run);
-    }
-    Ok(())
+    refuse(bad_limit | bad_increment | is_moved, Refusal::Run)
 }
 
 // The frames of a run that nothing turned back.
 pub fn settle_frames(
     state: State,
-    bytes: &[u8; 416],
+    bytes: &[u8; FRAME],
     increment: f64,
     limit: u32,
     table: &[u8],
@@ -112,7 +110,7 @@ pub fn settle_frames(
                 state = accepted.state;
                 if !accepted.outputs.repaint {
                     return SettlingRun {
-                        refusal: None,
+                        ended: Ok(()),
                         used: used + 1,
                         state,
                     };
@@ -120,7 +118,7 @@ pub fn settle_frames(
             }
             Err(refusal) => {
                 return SettlingRun {
-                    refusal: Some(refusal),
+                    ended: Err(refusal),
                     used,
                     state,
                 };
@@ -129,7 +127,7 @@ pub fn settle_frames(
         advance(&mut frame, increment);
     }
     SettlingRun {
-        refusal: None,
+        ended: Ok(()),
         used: limit,
         state,
     }
@@ -137,7 +135,7 @@ pub fn settle_frames(
 
 // Moves the time on.
 #[tactic(auto, unfolding(crate::specs::SettlingRun::advanced, crate::specs::Frame::frame_of, crate::specs::Frame::host_of))]
-fn advance(frame: &mut [u8; 416], increment: f64)
+fn advance(frame: &mut [u8; FRAME], increment: f64)
     ensures { frame.new ≡ Spec.advanced increment frame.old }
 {
     let next = Frame::new(frame).time() + increment;

@@ -9,6 +9,7 @@ ghost use Rattle.area.specs.Sweep as Spec;
 mod field;
 mod walk;
 
+use crate::frame::FRAME;
 use crate::marks::{
     DecayTime, Factor, Flag, Kind, Plain, PointsPerSecond, Size, SizeOrInfinity, StopDistance,
 };
@@ -16,11 +17,11 @@ use field::{Range, Rect, Time};
 use refusals::Refusal;
 use walk::Walk;
 
-/// The walk after some words: how many they are, and the refusal kept.
+/// The walk after some words: how many they are, and whether a refusal is kept.
 #[derive(Clone, Copy)]
 pub struct Swept {
     pub count: u32,
-    pub kept: Option<Refusal>,
+    pub kept: Result<(), Refusal>,
 }
 
 // A bar's response.
@@ -105,10 +106,10 @@ fn content<'a>(walk: Walk<'a>) -> Walk<'a>
 fn walk_over<'a>(frame: &'a [u8], last: u32) -> Option<Walk<'a>>
     ensures { Marks.walk_in result ≡ Marks.walk_of frame.now last }
 {
-    let Ok(words) = <&[u8; 416]>::try_from(frame) else {
+    let Ok(whole) = <&[u8; FRAME]>::try_from(frame) else {
         return None;
     };
-    Some(content(host(style(settings(Walk::new(words, last))))))
+    Some(content(host(style(settings(Walk::new(whole, last))))))
 }
 
 /// After the first n words of a frame, or all: how many they are, and the refusal kept.
@@ -119,7 +120,7 @@ pub fn sweep_words(frame: &[u8], n: u32) -> Swept
     match walk_over(frame, n) {
         None => Swept {
             count: 0,
-            kept: Some(Refusal::FrameLength),
+            kept: Err(Refusal::FrameLength),
         },
         Some(walk) => walk.swept(),
     }

@@ -35,6 +35,7 @@ pub struct Turned {
 pub fn hear_wheel(frame: &Frame, outer_rect: Rect, is_dragging_background: bool) -> WheelHeard
     ensures { result ≡ Spec.heard_of frame.now outer_rect is_dragging_background }
 {
+    // Stays: x and y by name, here and in wheel_scroll. They are the Rust's one test and one sum, and a fold over the axes is no plainer.
     let only = frame.direction_enabled(Axis::X) != frame.direction_enabled(Axis::Y);
     let over = rect_contains_pointer(frame, outer_rect);
     WheelHeard {

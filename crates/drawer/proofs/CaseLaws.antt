@@ -23,10 +23,6 @@ unfolding lay_on
 laid_not s e = rw (e)
 
 -- ---- load
-pub load_bad : (s : List ℕ) (x : ℕ) (state : List ℕ) → is_drawer width s ≡ false → load_on s x state ≡ record { refusal = 13; state = state }
-unfolding load_on
-load_bad s x state r = rw (r)
-
 pub load_none : (s : List ℕ) (x : ℕ) (state : List ℕ) → is_drawer width s ≡ true → record_of width s x ≡ 0 → load_on s x state ≡ record { refusal = 14; state = state }
 unfolding load_on
 load_none s x state r e = rw (r, eq-eqb (record_of width s x) 0 e)

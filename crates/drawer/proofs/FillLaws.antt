@@ -1,9 +1,9 @@
 -- A fresh drawer's records, written one after the other.
 use mathlib.Core.Path.{◌≡◌, refl, sym, ap, ◌∙◌}
-use mathlib.Core.List.{List, [], ◌++◌, append-nil, append_assoc}
+use mathlib.Core.List.{List, [], ◌++◌, append_assoc}
 use Prim.Native.Nat.{ℕ, zero, suc, ◌+◌, ◌*◌, ◌<◌, ◌≤◌}
 use native.Mathlib.Omega.{arith}
-use lib.ListN.{length, drop, length-append, length-drop, drop_of_length-le}
+use lib.ListN.{length, drop, length-append, length-drop}
 use lib.Seq.{drop_at, drop-drop}
 use Rattle.words.specs.Words.{bytes_of, put_at}
 use Rattle.words.proofs.KeptLaws.{length_bytes}
@@ -41,10 +41,6 @@ fresh_next n (suc r) s some =
 
     one : (i : ℕ) → suc i + 1 ≡ suc (suc i)
     one i = omega arith
-
-pub fresh_all : (n : ℕ) (s : List ℕ) → length s ≡ 4 * (width * n) → fresh_up_to n n s ≡ bytes_of (fresh_to n n)
-fresh_all n s whole =
-    ap (λ (l : List ℕ). bytes_of (fresh_to n n) ++ l) (drop_of_length-le s {i = 4 * (width * n)} (omega (arith, whole))) ∙ append-nil (bytes_of (fresh_to n n))
 
 pub fresh_length : (n m : ℕ) (s : List ℕ) → 4 * (width * m) ≤ length s → length (fresh_up_to n m s) ≡ length s
 fresh_length n m s room =

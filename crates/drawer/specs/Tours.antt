@@ -6,9 +6,13 @@ use Rattle.drawer.specs.Drawer.{id_in, is_state}
 use Rattle.drawer.specs.Search.{is_record}
 use Rattle.drawer.specs.declared.tour.Tour.{Tour}
 
--- all n records are there, each with room for a state
+-- a record has room for a state, and the number of a word of 65,536 such records stays within 32 bits
+abbrev pub IsWidth : ℕ → Type 0
+IsWidth width = (42 ≤ width) × (width ≤ 64)
+
+-- all n records are there
 abbrev pub Sized : ℕ → ℕ → List ℕ → Type 0
-Sized width n s = (42 ≤ width) × (width ≤ 64) × (n ≤ 65536) × (length s ≡ 4 * (width * n))
+Sized width n s = IsWidth width × (n ≤ 65536) × (length s ≡ 4 * (width * n))
 
 -- record r and link p lie in the buffer
 abbrev pub LiesIn : ℕ → ℕ → ℕ → List ℕ → Type 0

@@ -5,16 +5,16 @@ ghost use Rattle.drawer.specs.Drawer.{is_filled, is_drawer};
 ghost use Rattle.drawer.specs.Tours.{is_met, is_single};
 ghost use Rattle.drawer.specs.Calls as Spec;
 
-use crate::layout::{FREE, Records};
+use crate::layout::{FREE, LENGTH, Records};
 use refusals::Refusal;
 
 /// Words in a record: its next index, its id and a state's record.
-pub const WIDTH: u32 = 42;
+pub const RECORD_WORDS: u32 = 42;
 
 /// A buffer that is a drawer, read. Calls write it by words: between two of their writes it is none.
 #[derive(Clone, Copy)]
 pub struct Drawer<'a> {
-    pub records: Records<'a, WIDTH>,
+    pub records: Records<'a, RECORD_WORDS>,
     ghost checked: { is_drawer Spec.width records.bytes.now ≡ true },
 }
 
@@ -24,27 +24,26 @@ impl<'a> Drawer<'a> {
         ensures drawer { IfOk result (λ drawer. (drawer.records.bytes.now ≡ bytes.now) × (is_drawer Spec.width bytes.now ≡ true)) }
         ensures refused { IfErr result (λ refusal. (refusal ≡ Refusal.NoDrawer) × (is_drawer Spec.width bytes.now ≡ false)) }
     {
-        let records = Records::of_drawer(bytes).ok_or(Refusal::NoDrawer)?;
+        let records = Records::of(bytes)
+            .filter(|records| records.is_drawer())
+            .ok_or(Refusal::NoDrawer)?;
         Ok(Drawer { records })
     }
 }
 
-impl<'a, const WIDTH: u32> Records<'a, WIDTH> {
-    /// The records of a buffer, if it is a drawer.
-    #[tactic(auto, unfolding(crate::specs::Drawer::is_drawer))]
-    fn of_drawer(bytes: &'a [u8]) -> Option<Self>
-        requires { (42 ≤ WIDTH) × (WIDTH ≤ 64) }
-        ensures drawer { IfSome result (λ records. (records.bytes.now ≡ bytes.now) × (is_drawer WIDTH bytes.now ≡ true)) }
-        ensures refused { IfNone result (is_drawer WIDTH bytes.now ≡ false) }
+impl<const WIDTH: u32> Records<'_, WIDTH> {
+    /// Record 0 names the length, and the chains are as 13 asks.
+    #[tactic(auto, using(crate::proofs::SizeLaws::sized_is_whole), unfolding(crate::specs::Drawer::is_drawer))]
+    fn is_drawer(&self) -> bool
+        ensures { result ≡ is_drawer WIDTH self.now.bytes.now }
     {
-        let records = Records::<WIDTH>::of(bytes)?;
-        let named = records.word(17) == 4 * WIDTH;
-        (named && records.is_filled()).then_some(records)
+        self.word(LENGTH) == 4 * WIDTH && self.is_filled()
     }
 
     fn is_filled(&self) -> bool
         ensures { result ≡ is_filled WIDTH (word_at self.now.bytes.now) self.now.count }
     {
+        // Stays: an array with the chain's number for its length. A list that grows to 17 is that where there is no heap.
         let mut lasts = [0; 17];
         let mut total = 0;
         for chain in 0..17 {
@@ -73,7 +72,7 @@ impl<'a, const WIDTH: u32> Records<'a, WIDTH> {
 }
 
 /// Two chains that end and meet share their last record.
-// Stays: 0 for an empty chain, which meets none.
+// Stays: 0 for an empty chain, which meets none. An Option would be turned into the definition's 0 in the clause.
 #[tactic(auto, unfolding(crate::specs::Tours::is_met))]
 fn is_met(lasts: &[u32], last: u32) -> bool
     ensures { result ≡ is_met lasts.now last }

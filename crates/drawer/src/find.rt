@@ -10,7 +10,7 @@ use crate::check::Drawer;
 use crate::layout::{FREE, Records};
 
 /// A record, and the link that names it or is to name it.
-// Stays: LiesIn is a clause of those who find and write a place, since a struct round it and the buffer would serve one call each.
+// Stays: LiesIn is a clause of those who find and write a place. A ghost field would name the bytes, which each write borrows anew.
 #[derive(Clone, Copy)]
 pub struct Place {
     pub record: u32,

@@ -5,13 +5,15 @@ ghost use Rattle.drawer.specs.Drawer.{is_drawer};
 ghost use Rattle.drawer.specs.Tours.{LiesIn};
 ghost use Rattle.drawer.specs.Calls.{width, forget_on, gone_from};
 
-use crate::check::{Drawer, WIDTH};
+use crate::check::{Drawer, RECORD_WORDS};
 use crate::find::Place;
 use crate::laying::put_free;
+use crate::layout::FREE;
 use refusals::Refusal;
 use words::word;
 
 /// 13: no drawer. 14: the id is not there.
+#[tactic(auto, unfolding(crate::specs::Calls::forget_on))]
 pub fn forget(drawer: &mut [u8], id: u64) -> Result<(), Refusal>
     ensures answers { record { refusal = number_in result; drawer = drawer.new } ≡ forget_on drawer.old id }
     ensures kept { OnOk result (is_drawer width drawer.new ≡ true) }
@@ -28,9 +30,9 @@ fn free_record(drawer: &mut [u8], place: Place)
     ensures { drawer.new ≡ gone_from drawer.old place.record place.link }
 {
     let Place { record, link } = place;
-    let after = word(drawer, WIDTH * record);
-    let free = word(drawer, 16);
+    let after = word(drawer, RECORD_WORDS * record);
+    let free = word(drawer, FREE);
     words::put(drawer, link as usize, &[after]);
     put_free(drawer, record, free);
-    words::put(drawer, 16, &[record]);
+    words::put(drawer, FREE as usize, &[record]);
 }

@@ -12,6 +12,7 @@ use crate::layout::Records;
 pub struct Ids<'a, const WIDTH: u32> {
     records: Records<'a, WIDTH>,
     next: u32,
+    // Stays: a walk of its own, as seek and tour. They answer the link before a record, and what no record shows: an end or a bad index.
     // Stays: counted down. A chain of a buffer that is not yet a drawer may be a ring.
     left: u32,
 }
@@ -60,6 +61,7 @@ impl<'a, const WIDTH: u32> Records<'a, WIDTH> {
     }
 
     /// Whether a chain holds an id twice: each is compared with those after it.
+    #[tactic(auto, unfolding(crate::specs::Tours::holds_twice))]
     pub fn is_twice(&self, chain: u32) -> bool
         ensures { let w = word_at self.now.bytes.now in let n = self.now.count in result ≡ holds_twice (ids_from WIDTH w n n (w chain)) }
     {

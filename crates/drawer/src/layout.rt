@@ -3,13 +3,17 @@ ghost use Rattle.std.specs.Prelude.{◌≡◌, true, false, ◌+◌, ◌*◌, �
 ghost use Rattle.words.specs.Words.{word_at};
 ghost use Rattle.drawer.specs.Drawer.{records_of, is_whole, id_in, is_state};
 ghost use Rattle.drawer.specs.Search.{is_record};
-ghost use Rattle.drawer.specs.Tours.{Sized};
+ghost use Rattle.drawer.specs.Tours.{IsWidth, Sized};
 
-use words::{word, word_in};
+use words::{long_of, word, word_in};
 
-/// The chain of the free records. The other 16 are picked by the id's lowest four bits.
+/// The chain of the free records, the last of 17, whose heads are the first words. The other 16 are picked by the id's lowest four bits.
 pub const FREE: u32 = 16;
 
+/// The word that has the length of a record.
+pub const LENGTH: u32 = 17;
+
+// Stays: a width as a parameter. The laws hold of any from 42 to 64, and a number would be computed with in their proofs.
 #[derive(Clone, Copy)]
 pub struct Records<'a, const WIDTH: u32> {
     pub bytes: &'a [u8],
@@ -23,7 +27,7 @@ impl<'a, const WIDTH: u32> Records<'a, WIDTH> {
     /// The records of a buffer, if it is a whole number of them.
     #[tactic(auto, using(crate::proofs::SizeLaws::whole_parts))]
     pub fn of(bytes: &'a [u8]) -> Option<Self>
-        requires { (42 ≤ WIDTH) × (WIDTH ≤ 64) }
+        requires { IsWidth WIDTH }
         ensures whole { IfSome result (λ records.
             (records.bytes.now ≡ bytes.now)
             × (records.count ≡ records_of WIDTH (length bytes.now))
@@ -94,7 +98,7 @@ impl<const WIDTH: u32> Record<'_, WIDTH> {
         let first = WIDTH * self.index;
         let low = word_in(self.records.bytes, first + 1);
         let high = word_in(self.records.bytes, first + 2);
-        (u64::from(high) << 32) + u64::from(low)
+        long_of(low, high)
     }
 
     /// The state's flags are flags.
@@ -109,7 +113,7 @@ impl<const WIDTH: u32> Record<'_, WIDTH> {
 /// How many records so many bytes are, if they are a whole number of them, from 1 to 65,536.
 #[tactic(auto, unfolding(crate::specs::Drawer::is_whole))]
 pub fn count_of<const WIDTH: u32>(len: usize) -> Option<u32>
-    requires { (42 ≤ WIDTH) × (WIDTH ≤ 64) }
+    requires { 0 < WIDTH }
     ensures whole { IfSome result (λ count. (count ≡ records_of WIDTH len) × (is_whole WIDTH len ≡ true)) }
     ensures part { IfNone result (is_whole WIDTH len ≡ false) }
 {

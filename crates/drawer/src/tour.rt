@@ -18,7 +18,7 @@ impl<const WIDTH: u32> Records<'_, WIDTH> {
         ensures { let w = word_at self.now.bytes.now in let n = self.now.count in result ≡ tour_from WIDTH w n chain n (w chain) 0 0 0 true }
     {
         let mut next = self.head(chain);
-        // Stays: 0 for no record yet, as in the definition's walk, and for an empty chain, as in its head.
+        // Stays: 0 for no record yet. The definition's walk starts from zeros, and the loop's invariant would turn an Option into them.
         let mut last = 0;
         let mut previous = 0;
         let mut up = true;

@@ -2,10 +2,7 @@
 -- flags x, y as two digits".
 use Rattle.std.specs.Prelude.{ℕ, ◌+◌, ◌/◌, ◌%◌, Bool, false, cond, List, [], ◌∷◌, ◌++◌, ltb, get_or, Float}
 use Rattle.std.specs.Float.{nan}
-use Rattle.listing.specs.Digits.{digits_of}
-
-unfoldable pub flag_of : Bool → ℕ
-flag_of b = cond b 49 48
+use Rattle.listing.specs.Digits.{digits_of, flag_of}
 
 -- the last decimal digit of n, as ASCII
 abbrev pub digit_of : ℕ → ℕ

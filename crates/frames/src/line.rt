@@ -1,8 +1,8 @@
 // A line of the listing, a function of its numbers alone.
-ghost use Rattle.std.specs.Prelude.{Some, [], ◌∷◌};
+ghost use Rattle.std.specs.Prelude.{Some};
 ghost use Rattle.frames.specs.Line as Spec;
 
-use listing::{Answer, Bits};
+use listing::{Answer, Place};
 use refusals::number;
 use std::fmt;
 
@@ -10,44 +10,37 @@ use std::fmt;
 #[derive(Clone, Copy, Debug)]
 pub struct Line {
     pub refusal: u32,
-    pub offset: [f32; 2],
-    pub vel: [f32; 2],
-    pub stuck: [bool; 2],
+    pub place: Place,
 }
 
-// The refusal or 0, offset x and y and velocity x and y as the digits of their bits, and the stuck flags.
+// The refusal or 0, and where the state stands.
 impl fmt::Display for Line {
-    ghost output = { λ line. Some (Spec.line_of line.refusal line.offset line.vel line.stuck) };
+    ghost output = { λ line. Some (Spec.line_of line.refusal line.place.offset line.place.vel line.place.stuck) };
 
+    #[tactic(auto, unfolding(crate::specs::Line::line_of, listing::specs::Place::place_of))]
     fn fmt<W: fmt::Write>(&self, f: &mut fmt::Formatter<W>) -> fmt::Result {
-        let refusal = Decimal(self.refusal);
-        let (x, y) = (Bits(self.offset[0]), Bits(self.offset[1]));
-        let (vx, vy) = (Bits(self.vel[0]), Bits(self.vel[1]));
-        let (stuck_x, stuck_y) = (Flag(self.stuck[0]), Flag(self.stuck[1]));
-        writeln!(f, "{refusal} {x} {y} {vx} {vy} {stuck_x}{stuck_y}")
+        writeln!(f, "{} {}", Decimal(self.refusal), self.place)
     }
 }
 
 impl From<Answer> for Line {
     fn from(answer: Answer) -> Self {
-        let state = answer.state;
-        let (offset, vel, stuck) = (state.offset, state.vel, state.scroll_stuck_to_end);
         Line {
             refusal: number(&answer.outputs),
-            offset,
-            vel,
-            stuck,
+            place: Place::from(answer.state),
         }
     }
 }
 
 // A refusal, which has two digits at most.
+// Stays: digit by digit. The definition has two digits for any number, and the library prints three from 100 on.
 #[derive(Clone, Copy)]
 struct Decimal(u32);
 
 impl fmt::Display for Decimal {
     ghost output = { λ refusal. Some (Spec.decimal_of refusal.0) };
 
+    #[tactic(auto, using(crate::proofs::LineLaws::one_digit, crate::proofs::LineLaws::two_digits))]
     fn fmt<W: fmt::Write>(&self, f: &mut fmt::Formatter<W>) -> fmt::Result {
         let last = self.0 % 10;
         let is_short = self.0 < 10;
@@ -56,17 +49,5 @@ impl fmt::Display for Decimal {
         }
         let first = self.0 / 10 % 10;
         write!(f, "{first}{last}")
-    }
-}
-
-#[derive(Clone, Copy)]
-struct Flag(bool);
-
-impl fmt::Display for Flag {
-    ghost output = { λ flag. Some (Spec.flag_of flag.0 ∷ []) };
-
-    fn fmt<W: fmt::Write>(&self, f: &mut fmt::Formatter<W>) -> fmt::Result {
-        let digit = u32::from(self.0);
-        write!(f, "{digit}")
     }
 }

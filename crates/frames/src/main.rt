@@ -16,6 +16,7 @@ use std::{env, io};
 use table_file::read_table;
 
 // The listing under a table; no bytes stand for T.
+// Stays: the table as bytes, as in Answers: an Option would be turned into them at once.
 fn list_frames<R: Read + Drop, W: Write>(
     input: R,
     alloc: Global,

@@ -4,6 +4,7 @@
 #![tactic(auto)]
 
 use listing::{Answer, Answers, ByteWords};
+use records::{OUTPUTS, STATE};
 use refusals::number;
 use std::io::{LineWriter, Write};
 use std::{fmt, io};
@@ -13,16 +14,17 @@ struct Line(Answer);
 
 impl fmt::Display for Line {
     fn fmt<W: fmt::Write>(&self, f: &mut fmt::Formatter<W>) -> fmt::Result {
-        let answer = self.0;
-        let refusal = number(&answer.outputs);
-        let mut state = [0; 156];
-        records::put_state(&mut state, answer.state);
+        let Line(Answer { state, outputs }) = *self;
+        let refusal = number(&outputs);
+        let mut state_bytes = [0; STATE];
+        records::put_state(&mut state_bytes, state);
         // A refused frame puts nothing out: zeros.
-        let mut outputs = [0; 100];
-        if let Ok(accepted) = answer.outputs {
-            records::put_outcome(&mut outputs, accepted);
+        let mut output_bytes = [0; OUTPUTS];
+        if let Ok(outputs) = outputs {
+            records::put_outcome(&mut output_bytes, outputs);
         }
-        writeln!(f, "{refusal}{}{}", ByteWords(&state), ByteWords(&outputs))
+        let (state, outputs) = (ByteWords(&state_bytes), ByteWords(&output_bytes));
+        writeln!(f, "{refusal}{state}{outputs}")
     }
 }
 

@@ -16,6 +16,7 @@ use Rattle.area.specs.Pair.{num}
 use Rattle.area.specs.State.{no_target, no_press}
 use Rattle.area.specs.Drive.{before_of}
 use Rattle.area.specs.PutOut.{next_state}
+use Rattle.numbers.specs.Shape.{from_x_y_ranges_of}
 use Rattle.area.specs.End.{shrunk_rect_of}
 use Rattle.area.specs.Call.{call_under}
 use Rattle.area.specs.declared.state.State.{State}
@@ -65,7 +66,7 @@ opens s held = record {
 
 -- ---- a frame
 frame_is_held : (s : State) → IsHeld s → (frame table : List ℕ) → IsHeld (call_under (table_of table) s frame).state
-unfolding next_state shrunk_rect_of
+unfolding next_state shrunk_rect_of from_x_y_ranges_of
 frame_is_held s held frame table =
     stored_held IsHeld (table_of table) s frame held (opens s held) (λ e left now. record {
       offset = (left.x.offset, left.y.offset);

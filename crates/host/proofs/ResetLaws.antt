@@ -14,11 +14,12 @@ use lib.Ieee.Bits.{of_bits-fits}
 use Rattle.words.specs.Words.{bytes_of, put_at}
 use Rattle.words.proofs.KeptLaws.{length_bytes, kept_word}
 use Rattle.area.specs.State.{no_time}
-use Rattle.area.specs.Frame.{word_no, number_no, flag_no, time_no, time_words, pair_no, flags_no, pos2_no, rect_no, option_no, maybe_rect_no}
+use Rattle.area.specs.Frame.{word_no, number_no, flag_no, time_no, time_words, pair_no, flags_no, pos2_no, rect_no, option_no, maybe_number_no, maybe_rect_no}
 use Rattle.area.specs.Clock.{reset_of}
 use Rattle.area.specs.declared.state.State.{State}
 use Rattle.area.proofs.TimeLaws.{time_written}
-use Rattle.records.specs.Record.{maybe_target_no, maybe_press_no, state_words, record_of, state_of}
+use Rattle.area.specs.Parts.{target_no}
+use Rattle.records.specs.Record.{maybe_target_no, state_words, record_of, state_of}
 use Rattle.host.specs.Calls.{reset_on}
 use Rattle.records.proofs.PartLaws.{words_of, bytes_append, words_append, put_after, total_is}
 use Rattle.records.proofs.RecordLaws.{field_parts, time_parts, state_parts, field_right, state_right, state_words_lem}
@@ -49,14 +50,14 @@ module _ (s : List ℕ) (long : length s ≡ 156) where
   flags_stay n h k = rw (stays n h, stays (n + 1) k)
 
   targets_stay : (maybe_target_no left 5 ≡ maybe_target_no s 5) × (maybe_target_no left 11 ≡ maybe_target_no s 11)
-  unfolding maybe_target_no flag_no time_no number_no
+  unfolding option_no target_no flag_no time_no number_no
   targets_stay = (
     rw (stays 5 refl, stays 6 refl, stays 7 refl, stays 8 refl, stays 9 refl, stays 10 refl),
     rw (stays 11 refl, stays 12 refl, stays 13 refl, stays 14 refl, stays 15 refl, stays 16 refl),
   )
 
-  presses_stay : (maybe_press_no left 25 ≡ maybe_press_no s 25) × (maybe_press_no left 27 ≡ maybe_press_no s 27)
-  unfolding maybe_press_no flag_no number_no
+  presses_stay : (maybe_number_no left 25 ≡ maybe_number_no s 25) × (maybe_number_no left 27 ≡ maybe_number_no s 27)
+  unfolding option_no flag_no number_no
   presses_stay = (rw (stays 25 refl, stays 26 refl), rw (stays 27 refl, stays 28 refl))
 
   rect_stays : maybe_rect_no left 31 ≡ maybe_rect_no s 31

@@ -19,7 +19,8 @@ use Rattle.axis.specs.WheelLaw.{WheelHolds}
 use Rattle.axis.specs.declared.wheel.Wheeled.{Wheeled}
 use Rattle.refusals.specs.Refusal.{Answered}
 use Rattle.axis.proofs.WheelLaws.{call_passed, overscroll_is_outside}
-use Rattle.area.specs.Frame.{word_no, number_no, flag_no}
+use Rattle.area.specs.Frame.{word_no, number_no, flag_no, rangef_no}
+use Rattle.area.specs.Parts.{axis_no}
 use Rattle.records.specs.Record.{number_word, flag_word}
 use Rattle.records.specs.Held.{Is32}
 use Rattle.host.specs.Calls.{axis_of, scroll_of, wheeled_of, WheelOnHolds}
@@ -74,7 +75,7 @@ module _ (call : List ℕ) (w : Wheeled)
     (wheel_call_of (axis_of call) (number_no call 7) (number_no call 8) (scroll_of call) (flag_no call 13))) where
   pub on_holds : WheelHolds (axis_of call) (number_no call 7) (number_no call 8) (scroll_of call) (flag_no call 13) w
       → Is32 w.offset → Is32 w.vel → word_no call 7 < 4294967296 → word_no call 8 < 4294967296 → WheelOnHolds call (bytes_of (wheel_words w))
-  unfolding number_no axis_of
+  unfolding number_no axis_no rangef_no
   on_holds holds offset vel small_7 small_8 =
       let out = bytes_of (wheel_words w) in
       let finite = call_passed _ _ _ _ _ (sym (ap (λ (b : Answered Wheeled). b.refusal) same)) in

@@ -11,7 +11,8 @@ use Rattle.axis.specs.declared.step.Stepped.{Stepped}
 use Rattle.refusals.specs.Refusal.{Answered, number_of}
 use Rattle.refusals.specs.declared.Refusal.{Refusal}
 use Rattle.area.specs.State.{no_time, default, clamped_offset}
-use Rattle.area.specs.Frame.{word_no, number_no, flag_no, time_words, source_no}
+use Rattle.area.specs.Frame.{word_no, number_no, flag_no, time_words}
+use Rattle.area.specs.Parts.{axis_no, scroll_no}
 use Rattle.area.specs.Checks.{frame_refusal}
 use Rattle.area.specs.Call.{call_under}
 use Rattle.area.specs.Outcome.{Answer}
@@ -70,13 +71,9 @@ abbrev pub words_left : List ℕ → Result (List ℕ) Refusal → Left
 words_left given (Ok words) = record { refusal = 0; out = bytes_of words }
 words_left given (Err refusal) = record { refusal = number_of refusal; out = bytes_of given }
 
--- "the axis words bounds min, bounds max, extent, decay_time, stop_distance, rubber_band"
-unfoldable pub axis_of : List ℕ → AxisPhysics
-axis_of call = record {
-  bounds = record { min = number_no call 1; max = number_no call 2 };
-  viewport_extent = number_no call 3;
-  style = record { decay_time = number_no call 4; stop_distance = number_no call 5; rubber_band = flag_no call 6 };
-}
+-- "the axis words"
+abbrev pub axis_of : List ℕ → AxisPhysics
+axis_of call = axis_no call 1
 
 -- strakobud_drag: "then for drag offset, delta"; "A flag or kind of an axis call outside its values: 2, ahead of 3"; "On a refusal out
 -- holds what was given, with answer 0"
@@ -113,8 +110,8 @@ abbrev pub step_on : List ℕ → Left
 step_on = step_under table_at
 
 -- strakobud_wheel: "for wheel offset, velocity, delta, source, can_chain_to_parent, dt, bounced"; out: "offset, velocity, bounced, answer"
-unfoldable pub scroll_of : List ℕ → WheelScroll
-scroll_of call = record { delta = number_no call 9; source = source_no call 10; can_chain_to_parent = flag_no call 11; dt = number_no call 12 }
+abbrev pub scroll_of : List ℕ → WheelScroll
+scroll_of call = scroll_no call 9
 
 abbrev pub wheel_given : List ℕ → ℕ → Left
 wheel_given call refusal = record { refusal = refusal; out = bytes_of (word_no call 7 ∷ word_no call 8 ∷ word_no call 13 ∷ 0 ∷ []) }

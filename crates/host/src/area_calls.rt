@@ -20,6 +20,7 @@ pub fn strakobud_fresh(state: &mut [u8; 156])
 }
 
 // Never refused: a damaged record keeps its other words. Words are counted from 0 here.
+#[tactic(auto, using(crate::proofs::ResetLaws::reset_stands), unfolding(crate::specs::Calls::reset_on))]
 pub fn strakobud_reset(state: &mut [u8; 156])
     ensures clears { ResetOnSays state.old state.new }
     ensures stands { state_of state.new ≡ reset_of (state_of state.old) }

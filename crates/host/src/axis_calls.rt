@@ -3,44 +3,14 @@ ghost use Rattle.std.specs.Prelude.{◌≡◌, ◌*◌, [], ◌∷◌, length, I
 ghost use Rattle.words.specs.Words.{bytes_of};
 ghost use Rattle.refusals.specs.Refusal.{number_in};
 ghost use Rattle.numbers.specs.Table.{table_of};
-ghost use Rattle.area.specs.Frame.{Holds, word_no};
+ghost use Rattle.area.specs.Frame.{word_no};
 ghost use Rattle.host.specs.Calls as Spec;
 
-use area::{FromWords, kind_at, word_at};
-use axis::{AxisPhysics, KineticScrollStyle, WheelScroll};
-use numbers::{Ieee, Rangef};
+use area::{FromWords, word_at};
+use axis::{AxisPhysics, WheelScroll};
+use numbers::Ieee;
 use records::is_no_flag;
 use refusals::Refusal;
-
-// The words that begin each call.
-// Stays: FromWords is area's and the type axis's, so no impl of it can stand here; scroll_of likewise.
-#[tactic(auto, unfolding(crate::specs::Calls::axis_of, area::specs::Frame::rangef_no))]
-fn axis_of(call: &[u8]) -> AxisPhysics
-    requires { Holds call.now 1 5 }
-    ensures { result ≡ Spec.axis_of call.now }
-{
-    AxisPhysics {
-        bounds: Rangef::at(call, 1),
-        viewport_extent: f32::at(call, 3),
-        style: KineticScrollStyle {
-            decay_time: f32::at(call, 4),
-            stop_distance: f32::at(call, 5),
-            rubber_band: bool::at(call, 6),
-        },
-    }
-}
-
-#[tactic(auto, unfolding(crate::specs::Calls::scroll_of))]
-fn scroll_of(call: &[u8; 52]) -> WheelScroll
-    ensures { result ≡ Spec.scroll_of call.now }
-{
-    WheelScroll {
-        delta: f32::at(call, 9),
-        source: kind_at(call, 10),
-        can_chain_to_parent: bool::at(call, 11),
-        dt: f32::at(call, 12),
-    }
-}
 
 // Into out go the words of an answer, or on a refusal what was given.
 #[tactic(auto, using(records::proofs::PartLaws::put_all))]
@@ -78,7 +48,7 @@ fn dragged(call: &[u8; 32]) -> Result<[u32; 1], Refusal>
     if is_no_flag(word_at(call, 6)) {
         return Err(Refusal::FlagOrKind);
     }
-    let offset = axis::call::drag(axis_of(call), f32::at(call, 7), f32::at(call, 8))?;
+    let offset = axis::call::drag(AxisPhysics::at(call, 1), f32::at(call, 7), f32::at(call, 8))?;
     Ok([offset.bits()])
 }
 
@@ -120,7 +90,7 @@ fn stepped(call: &[u8; 40], table: &[u8]) -> Result<[u32; 3], Refusal>
         return Err(Refusal::FlagOrKind);
     }
     let stepped = axis::call::step_by(
-        axis_of(call),
+        AxisPhysics::at(call, 1),
         f32::at(call, 7),
         f32::at(call, 8),
         f32::at(call, 9),
@@ -154,10 +124,10 @@ fn wheeled(call: &[u8; 52]) -> Result<[u32; 4], Refusal>
         return Err(Refusal::FlagOrKind);
     }
     let wheeled = axis::call::wheel(
-        axis_of(call),
+        AxisPhysics::at(call, 1),
         f32::at(call, 7),
         f32::at(call, 8),
-        scroll_of(call),
+        WheelScroll::at(call, 9),
         bool::at(call, 13),
     )?;
     Ok([

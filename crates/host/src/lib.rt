@@ -1,6 +1,6 @@
 // The library that a panel links: each call takes and gives bytes, and include/strakobud.h says which.
 // Stays: a table as bytes of any length. Each public call takes every length, and one of another than 8,200 stands for T.
-// Stays: the answer's record in each clause. It is the definition's value, and host_c's clauses are these word for word.
+// Stays: the answer's record in each clause. It is the definition's value, and host_c's are these with the number for the Result.
 // Stays: 156, 100, 416 and 8,200 as numbers. include/strakobud.h and the clauses write them so.
 #![tactic(auto)]
 

@@ -61,8 +61,5 @@ fn settle_under(
     if 0 < settled.used {
         put_state(state, settled.state);
     }
-    match settled.refusal {
-        None => Ok(()),
-        Some(refusal) => Err(refusal),
-    }
+    settled.ended
 }

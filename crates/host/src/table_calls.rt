@@ -23,6 +23,7 @@ pub fn strakobud_table_t(table: &mut [u8; 8200])
     ensures serves { Spec.ServesAsT table.new }
 {
     let mut entry: u64 = 1 << 40;
+    // Stays: by the entry's number, as the definition and the loop's invariant count.
     for k in 0..1025 {
         words::put(table, 2 * k, &words::long_words(entry));
         entry = entry * 48769 / 49537;

@@ -1,4 +1,4 @@
-// The library that C links: host's calls under their C names, with the same clauses.
+// The library that C links: host's calls under their C names, with the same clauses of the number in place of the Result.
 #![tactic(auto)]
 
 mod area_calls;

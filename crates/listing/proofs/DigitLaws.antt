@@ -1,11 +1,13 @@
--- What `{:08x}` prints of a word is its eight digits. Assumes nothing.
+-- What `{:08x}` prints of a word is its eight digits, and of a flag's number its digit. Assumes nothing.
 use Rattle.std.proofs.Common.{◌≡◌, ℕ, zero, suc, ◌+◌, ◌-◌, ◌/◌, ◌%◌, ◌^◌, ◌<◌, ◌≤◌, Bool, true, false, List, [], ◌∷◌, ◌++◌, refl, sym, ap, ◌∙◌, arith, length, replicate, eq-eqb, eqb-true}
 use mathlib.Core.List.{append-nil}
 use mathlib.Core.Bool.{cond}
 use native.Mathlib.Nat.{pow-suc, sub-zero, div-div-eq-div-mul}
 use lib.Dec.{eqb}
-use Rattle.std.specs.Fmt.{digits, digits_onto, digit_glyph, padded_integral, format_spec, char_count}
-use Rattle.listing.specs.Digits.{glyph_of, digits_of_word}
+use mir.Val.{bool_byte}
+use Rattle.std.specs.Fmt.{decimal, digits, digits_onto, digit_glyph, padded_integral, format_spec, char_count}
+use Rattle.std.proofs.lemmas.Fmt.{decimal_digit}
+use Rattle.listing.specs.Digits.{glyph_of, digits_of_word, flag_of}
 
 -- ---- the digits of a number, one more before those there are
 
@@ -82,3 +84,10 @@ onto w = refl
 
 pub printed : (w : ℕ) → w < 2 ^ 32 → padded_integral (format_spec 32 0 4 8 (2 ^ 64 - 1)) false [] (digits 16 false w) ≡ digits_of_word w
 printed w small = padded (digits 16 false w) ∙ ap (λ (l : List ℕ). replicate (8 - length l) 48 ++ l) (onto w) ∙ filled_is 7 63 w [] small (omega arith) ∙ digits_are w
+
+-- ---- a flag
+
+pub decimal_of_flag : (b : Bool) → decimal (bool_byte b) ≡ flag_of b ∷ []
+unfolding flag_of
+decimal_of_flag true = decimal_digit 1 (omega arith)
+decimal_of_flag false = decimal_digit 0 (omega arith)

@@ -1,5 +1,7 @@
 -- "eight lower-case hexadecimal digits of their bits".
-use Rattle.std.specs.Prelude.{ℕ, ◌+◌, ◌/◌, ◌%◌, cond, List, [], ◌∷◌, ltb, Float}
+use Rattle.std.specs.Prelude.{ℕ, ◌+◌, ◌/◌, ◌%◌, Bool, cond, List, [], ◌∷◌, length, map, ltb, Float}
+use Rattle.std.specs.Int.{w32, from_le_bytes}
+use Rattle.std.specs.Simd.{first_chunks}
 use Rattle.std.specs.Float.{binary32}
 use Rattle.std.specs.Float.Ieee.{to_bits}
 use Rattle.std.specs.List.{flat_map}
@@ -26,3 +28,11 @@ digits_of x = digits_of_word (to_bits binary32 x)
 -- each word behind a space
 abbrev pub digits_of_words : List ℕ → List ℕ
 digits_of_words words = flat_map (λ (w : ℕ). 32 ∷ digits_of_word w) words
+
+-- the whole little-endian words of bytes
+abbrev pub words_of : List ℕ → List ℕ
+words_of bytes = map (from_le_bytes w32) (first_chunks 4 (length bytes / 4) bytes)
+
+-- a flag as a digit, in ASCII
+unfoldable pub flag_of : Bool → ℕ
+flag_of b = cond b 49 48

@@ -1,15 +1,23 @@
--- A stored call begins with the words of its axis: "bounds min and max, extent, decay_time, stop_distance, rubber_band".
-use Rattle.std.specs.Prelude.{ℕ, List, ◌==◌, get_or, from_bits}
-use Rattle.std.specs.Float.{binary32}
-use Rattle.axis.specs.declared.physics.AxisPhysics.{AxisPhysics}
+-- A step's line: "step", the words of its call, "=", the refusal or 0 in decimal, offset and velocity as the digits of their bits, and
+-- whether it moves as a digit, with single spaces.
+use Rattle.std.specs.Prelude.{ℕ, List, [], ◌∷◌, ◌++◌}
+use Rattle.std.specs.Fmt.{decimal}
+use Rattle.axis.specs.declared.step.Stepped.{Stepped}
+use Rattle.listing.specs.Digits.{digits_of, digits_of_words, words_of, flag_of}
 
-abbrev pub axis_in : List ℕ → AxisPhysics
-axis_in words = record {
-  bounds = record { min = from_bits binary32 (get_or words 0 0); max = from_bits binary32 (get_or words 1 0) };
-  viewport_extent = from_bits binary32 (get_or words 2 0);
-  style = record {
-    decay_time = from_bits binary32 (get_or words 3 0);
-    stop_distance = from_bits binary32 (get_or words 4 0);
-    rubber_band = get_or words 5 0 == 1;
-  };
-}
+unfoldable pub line_of : List ℕ → ℕ → Stepped → List ℕ
+line_of call refusal stepped =
+    115
+    ∷ 116
+    ∷ 101
+    ∷ 112
+    ∷ (digits_of_words (words_of call)
+    ++ (32
+    ∷ 61
+    ∷ 32
+    ∷ (decimal refusal
+    ++ (32
+    ∷ (digits_of stepped.offset
+    ++ (32
+    ∷ (digits_of stepped.vel
+    ++ (32 ∷ flag_of stepped.moving ∷ []))))))))

@@ -1,7 +1,8 @@
 // Frames of 416 bytes, one after another from a fresh state, and the answer of each.
 ghost use Rattle.std.specs.Iterator.{at_most};
 
-use area::{Form, Outputs, State, call_by, state_after};
+use crate::turns::Turns;
+use area::{FRAME, Outputs, State};
 use refusals::Refusal;
 use std::alloc::Global;
 use std::io;
@@ -15,12 +16,12 @@ pub struct Answer {
     pub outputs: Result<Outputs, Refusal>,
 }
 
-/// The first call is by value, the second lent, and so on by turns. A shorter last part is a frame refused with 1.
+/// A shorter last part is a frame refused with 1.
 #[derive(Drop)]
 pub struct Answers<'a, R> {
-    frames: Records<R, Part<416>>,
-    state: State,
-    form: Form,
+    frames: Records<R, Part<FRAME>>,
+    turns: Turns,
+    // Stays: bytes. The calls take bytes of any length, and no bytes stand for T: an Option would be turned into bytes at each call.
     table: &'a [u8],
 }
 
@@ -28,8 +29,7 @@ impl<'a, R: Read + Drop> Answers<'a, R> {
     pub fn new(input: R, alloc: Global, table: &'a [u8]) -> Self {
         Answers {
             frames: Records::new(input, alloc),
-            state: State::default(),
-            form: Form::ByValue,
+            turns: Turns::default(),
             table,
         }
     }
@@ -43,11 +43,9 @@ impl<R: Read + Drop> Iterator for Answers<'_, R> {
     fn next(&mut self) -> Option<io::Result<Answer>> {
         match self.frames.next()? {
             Ok(frame) => {
-                let answer = call_by(self.state, self.form, &frame.bytes, self.table);
-                self.state = state_after(self.state, &answer);
-                self.form = self.form.other();
+                let answer = self.turns.frame(&frame.bytes, self.table);
                 Some(Ok(Answer {
-                    state: self.state,
+                    state: self.turns.state,
                     outputs: answer.map(|accepted| accepted.outputs),
                 }))
             }

@@ -1,5 +1,5 @@
 // Words of 32 bits in a line, each as eight digits.
-ghost use Rattle.std.specs.Prelude.{◌≡◌, Some};
+ghost use Rattle.std.specs.Prelude.{Some, [], ◌∷◌};
 ghost use Rattle.listing.specs.Digits as Spec;
 
 use numbers::Ieee;
@@ -12,8 +12,9 @@ pub struct Word(pub u32);
 impl fmt::Display for Word {
     ghost output = { λ word. Some (Spec.digits_of_word word.0) };
 
+    #[tactic(auto, using(crate::proofs::DigitLaws::printed))]
     fn fmt<W: fmt::Write>(&self, f: &mut fmt::Formatter<W>) -> fmt::Result {
-        let word = self.0;
+        let Word(word) = *self;
         write!(f, "{word:08x}")
     }
 }
@@ -26,8 +27,21 @@ impl fmt::Display for Bits {
     ghost output = { λ number. Some (Spec.digits_of number.0) };
 
     fn fmt<W: fmt::Write>(&self, f: &mut fmt::Formatter<W>) -> fmt::Result {
-        let word = Word(self.0.bits());
-        write!(f, "{word}")
+        write!(f, "{}", Word(self.0.bits()))
+    }
+}
+
+/// A flag as a digit.
+#[derive(Clone, Copy, Debug, PartialEq, Eq)]
+pub struct Flag(pub bool);
+
+impl fmt::Display for Flag {
+    ghost output = { λ flag. Some (Spec.flag_of flag.0 ∷ []) };
+
+    #[tactic(auto, using(crate::proofs::DigitLaws::decimal_of_flag))]
+    fn fmt<W: fmt::Write>(&self, f: &mut fmt::Formatter<W>) -> fmt::Result {
+        let digit = u32::from(self.0);
+        write!(f, "{digit}")
     }
 }
 
@@ -40,8 +54,7 @@ impl fmt::Display for Words<'_> {
 
     fn fmt<W: fmt::Write>(&self, f: &mut fmt::Formatter<W>) -> fmt::Result {
         for word in self.0 {
-            let word = Word(*word);
-            write!(f, " {word}")?;
+            write!(f, " {}", Word(*word))?;
         }
         Ok(())
     }
@@ -53,11 +66,12 @@ impl fmt::Display for Words<'_> {
 pub struct ByteWords<'a>(pub &'a [u8]);
 
 impl fmt::Display for ByteWords<'_> {
+    ghost output = { λ bytes. Some (Spec.digits_of_words (Spec.words_of bytes.0.now)) };
+
     fn fmt<W: fmt::Write>(&self, f: &mut fmt::Formatter<W>) -> fmt::Result {
         let (words, _) = self.0.as_chunks::<4>();
         for bytes in words {
-            let word = Word(u32::from_le_bytes(*bytes));
-            write!(f, " {word}")?;
+            write!(f, " {}", Word(u32::from_le_bytes(*bytes)))?;
         }
         Ok(())
     }

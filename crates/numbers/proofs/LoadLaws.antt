@@ -4,6 +4,9 @@ use borrow.Author.Tests.{eqb-false}
 use lib.Dec.{not_T}
 use lib.Ieee.Bits.{is_true, is_false}
 use lib.Ieee.Fits.{and_i, and_l, and_r}
+use Rattle.std.specs.Bool.{MatchBool}
+use Rattle.std.specs.List.{AllWithin, HoldsAt, range_with_len}
+use Rattle.std.proofs.lemmas.List.FromFn.{get_or-range_with_len, length-range_with_len}
 use Rattle.words.specs.Words.{long_at}
 use Rattle.numbers.specs.Table.{table_at, is_ordered, load_of, table_of, IsTable, Served, Loads}
 use Rattle.numbers.proofs.TableLaws.{t_is_table, as_table, at_most}
@@ -43,13 +46,13 @@ module _ (bytes : List ℕ) where
     falls = λ k l. falls k (fewer (suc k) (1024 - suc k) (subst (λ (i : ℕ). T (is_ordered bytes i)) (sym (sub-add_cancel l)) h));
   }
 
-  is_ordered_lem : IsTable (long_at bytes) → (n : ℕ) → n ≤ 1024 → T (is_ordered bytes n)
+  is_ordered_lem : long_at bytes 0 ≡ 2 ^ 40 → (n : ℕ) → ((k : ℕ) → k < n → long_at bytes (suc k) ≤ long_at bytes k) → T (is_ordered bytes n)
   unfolding is_ordered
-  is_ordered_lem is zero h = subst T (sym (eq-eqb (long_at bytes 0) (2 ^ 40) is.first)) tt
-  is_ordered_lem is (suc n) h =
+  is_ordered_lem first_is zero fall = subst T (sym (eq-eqb (long_at bytes 0) (2 ^ 40) first_is)) tt
+  is_ordered_lem first_is (suc n) fall =
       and_i (is_ordered bytes n) (not (ltb (long_at bytes n) (long_at bytes (suc n))))
-      (is_ordered_lem is n (le_of_lt h))
-      (not_T (ltb (long_at bytes n) (long_at bytes (suc n))) (λ t. not-le_of_lt (ltb→lt (long_at bytes n) (long_at bytes (suc n)) t) (is.falls n h)))
+      (is_ordered_lem first_is n (λ k l. fall k (omega arith)))
+      (not_T (ltb (long_at bytes n) (long_at bytes (suc n))) (λ t. not-le_of_lt (ltb→lt (long_at bytes n) (long_at bytes (suc n)) t) (fall n (omega arith))))
 
   pub other_first : (n : ℕ) → long_at bytes 0 ≢ 2 ^ 40 → false ≡ is_ordered bytes n
   other_first n other = sym (is_false (is_ordered bytes n) (not_T (is_ordered bytes n) (λ t. other (first n t))))
@@ -60,6 +63,23 @@ module _ (bytes : List ℕ) where
       λ t. falls k (fewer (suc k) (n - suc k) (subst (λ (i : ℕ). T (is_ordered bytes i)) (sym (sub-add_cancel below)) t)) in
       let up' : long_at bytes k < long_at bytes (suc k) = subst (λ (i : ℕ). long_at bytes k < long_at bytes i) (add-one k) up in
       sym (is_false (is_ordered bytes n) (not_T (is_ordered bytes n) (λ t. not-le_of_lt up' (falls_to t))))
+
+  -- what a look at each of the numbers below n tells
+  pub told_by_all : (n : ℕ) → long_at bytes 0 ≡ 2 ^ 40 → (r : Bool)
+      → MatchBool r
+      (AllWithin (λ k. long_at bytes (k + 1) ≤ long_at bytes k) (range_with_len 0 n) 0 (length (range_with_len 0 n)))
+      ((k : ℕ) × (k < length (range_with_len 0 n)) × HoldsAt (λ k. long_at bytes k < long_at bytes (k + 1)) (range_with_len 0 n) k)
+      → r ≡ is_ordered bytes n
+  told_by_all n first_is true fall = sym (is_true (is_ordered bytes n) (is_ordered_lem first_is n falls_at))
+    where
+      falls_at : (k : ℕ) → k < n → long_at bytes (suc k) ≤ long_at bytes k
+      falls_at k l =
+          subst (λ (i : ℕ). long_at bytes i ≤ long_at bytes k) (add-one k)
+          (subst (λ (i : ℕ). long_at bytes (i + 1) ≤ long_at bytes i) (get_or-range_with_len 0 n k 0 l ∙ zero-add k)
+          (fall k 0 (omega arith) (subst (λ (m : ℕ). k < m) (sym (length-range_with_len 0 n)) l)))
+  told_by_all n first_is false (k, below, up) =
+      let l = subst (λ (m : ℕ). k < m) (length-range_with_len 0 n) below in
+      rises k n l (subst (λ (i : ℕ). long_at bytes i < long_at bytes (i + 1)) (get_or-range_with_len 0 n k 0 l ∙ zero-add k) (up 0))
 
   -- ---- an entry of a lent table
 
@@ -108,7 +128,7 @@ module _ (bytes : List ℕ) where
 
   all_served : length bytes ≡ 8200 → IsTable (long_at bytes) → load_of bytes ≡ 0
   unfolding load_of
-  all_served l is = rw (eq-eqb (length bytes) 8200 l, is_true (is_ordered bytes 1024) (is_ordered_lem is 1024 (omega arith)))
+  all_served l is = rw (eq-eqb (length bytes) 8200 l, is_true (is_ordered bytes 1024) (is_ordered_lem is.first 1024 is.falls))
 
   pub loads : (r : ℕ) → r ≡ load_of bytes → Loads bytes r
   loads r h = (λ z. only_served (sym h ∙ z), λ l is. h ∙ all_served l is)

@@ -1,5 +1,5 @@
 // One of the two axes, and what a pair has along it.
-ghost use Rattle.std.specs.Prelude.{◌≡◌, ◌<◌, slice_index_or};
+ghost use Rattle.std.specs.Prelude.{◌≡◌, slice_index_or};
 ghost use Rattle.numbers.specs.Axis.{index_of, other_of};
 
 #[derive(Clone, Copy, Debug, PartialEq, Eq)]
@@ -9,16 +9,6 @@ pub enum Axis {
 }
 
 impl Axis {
-    pub fn index(self) -> usize
-        ensures is { result ≡ index_of self }
-        ensures inside { result < 2 }
-    {
-        match self {
-            Axis::X => 0,
-            Axis::Y => 1,
-        }
-    }
-
     pub fn other(self) -> Self
         ensures { result ≡ other_of self }
     {

@@ -9,8 +9,8 @@ use crate::table::entry;
 use refusals::Refusal;
 use words::long_in;
 
-// The bytes of a table.
-const TABLE: usize = 8200;
+/// The bytes of a table.
+pub const TABLE: usize = 8200;
 
 // The first entry, 2^40.
 const FIRST: u64 = 1 << 40;
@@ -37,15 +37,7 @@ fn is_ordered(bytes: &[u8; TABLE]) -> bool
     ensures { result ≡ is_ordered bytes.now 1024 }
 {
     let first = long_in(bytes, 0);
-    if first != FIRST {
-        return false;
-    }
-    for k in 0..1024 {
-        if long_in(bytes, k) < long_in(bytes, k + 1) {
-            return false;
-        }
-    }
-    true
+    first == FIRST && (0..1024).all(|k| long_in(bytes, k + 1) <= long_in(bytes, k))
 }
 
 // Entry k of the table that the bytes stand for. No table that loads has a number above 2^40; in one that nobody loaded it counts as 2^40.

@@ -13,12 +13,13 @@ use lib.ListN.{get_or}
 use lib.Ieee.{Float, binary32, binary64, of_bits, to_bits}
 use lib.Ieee.Bits.{of_bits-to_bits, to_bits-lt}
 use Rattle.words.specs.Words.{word_at}
-use Rattle.area.specs.Frame.{word_no, number_no, flag_no, pair_no, flags_no, pos2_no, rect_no, option_no, maybe_rect_no}
+use Rattle.area.specs.Frame.{word_no, number_no, flag_no, pair_no, flags_no, pos2_no, rect_no, option_no, maybe_number_no, maybe_rect_no}
+use Rattle.area.specs.Parts.{target_no}
 use Rattle.area.specs.Pair.{flag}
 use Rattle.area.specs.State.{no_target, no_press}
 use Rattle.area.specs.declared.state.State.{State}
 use Rattle.records.specs.Record.{option_words, span_words, rect_words, number_word, flag_word, number_words, flag_words, target_words, press_words, maybe_rect_words, state_words, record_of}
-use Rattle.records.specs.Record.{maybe_target_no, maybe_press_no, state_of, is_no_flag, is_damaged}
+use Rattle.records.specs.Record.{maybe_target_no, state_of, is_no_flag, is_damaged}
 use Rattle.records.specs.Held.{Is32, ArePair, AreFlags, IsTarget, AreTargets, IsPress, ArePresses, IsRect, IsHeld}
 use Rattle.area.proofs.TimeLaws.{low_small, high_small, time_read_back}
 use Rattle.records.proofs.RecordLaws.{state_parts, state_right}
@@ -67,21 +68,21 @@ flags_back s n (a ∷ b ∷ c ∷ v) held read = absurd held
 
 -- ---- options
 target_back : (s : List ℕ) (n : ℕ) (t : Option ScrollingToTarget) → IsTarget t → Reads s n (target_words t) → maybe_target_no s n ≡ t
-unfolding maybe_target_no
+unfolding option_no target_no
 target_back s n None held read = rw (flag_back s n false (read 0 n (omega arith) (lit< tt) (lit< tt)))
 target_back s n (Some t) held read = rw (
   flag_back s n true (read 0 n (omega arith) (lit< tt) (lit< tt)),
   time_read_back s (n + 1) t.start held.0
       (read 1 (n + 1) refl (lit< tt) (low_small (to_bits binary64 t.start)))
       (read 2 (n + 1 + 1) (omega arith) (lit< tt) (high_small t.start held.0)),
-  time_read_back s (n + 3) t.end held.1
-      (read 3 (n + 3) refl (lit< tt) (low_small (to_bits binary64 t.end)))
-      (read 4 (n + 3 + 1) (omega arith) (lit< tt) (high_small t.end held.1)),
-  number_back s (n + 5) t.target_offset held.2 (read 5 (n + 5) refl (lit< tt) (number_small t.target_offset held.2)),
+  time_read_back s (n + 1 + 2) t.end held.1
+      (read 3 (n + 1 + 2) (omega arith) (lit< tt) (low_small (to_bits binary64 t.end)))
+      (read 4 (n + 1 + 2 + 1) (omega arith) (lit< tt) (high_small t.end held.1)),
+  number_back s (n + 1 + 4) t.target_offset held.2 (read 5 (n + 1 + 4) (omega arith) (lit< tt) (number_small t.target_offset held.2)),
 )
 
-press_back : (s : List ℕ) (n : ℕ) (p : Option Float) → IsPress p → Reads s n (press_words p) → maybe_press_no s n ≡ p
-unfolding maybe_press_no
+press_back : (s : List ℕ) (n : ℕ) (p : Option Float) → IsPress p → Reads s n (press_words p) → maybe_number_no s n ≡ p
+unfolding option_no
 press_back s n None held read = rw (flag_back s n false (read 0 n (omega arith) (lit< tt) (lit< tt)))
 press_back s n (Some x) held read = rw (
   flag_back s n true (read 0 n (omega arith) (lit< tt) (lit< tt)),
@@ -101,15 +102,13 @@ rect_back s n (Some r) held read = rw (
 
 targets_back : (s : List ℕ) (n m : ℕ) (v : List (Option ScrollingToTarget)) → AreTargets v → Reads s n (target_words (get_or v 0 no_target))
     → Reads s m (target_words (get_or v 1 no_target)) → maybe_target_no s n ∷ maybe_target_no s m ∷ [] ≡ v
-unfolding maybe_target_no
 targets_back s n m [] held first second = absurd held
 targets_back s n m (t ∷ []) held first second = absurd held
 targets_back s n m (t ∷ u ∷ []) held first second = rw (target_back s n t held.0 first, target_back s m u held.1 second)
 targets_back s n m (t ∷ u ∷ w ∷ v) held first second = absurd held
 
 presses_back : (s : List ℕ) (n m : ℕ) (v : List (Option Float)) → ArePresses v → Reads s n (press_words (get_or v 0 no_press))
-    → Reads s m (press_words (get_or v 1 no_press)) → maybe_press_no s n ∷ maybe_press_no s m ∷ [] ≡ v
-unfolding maybe_press_no
+    → Reads s m (press_words (get_or v 1 no_press)) → maybe_number_no s n ∷ maybe_number_no s m ∷ [] ≡ v
 presses_back s n m [] held first second = absurd held
 presses_back s n m (p ∷ []) held first second = absurd held
 presses_back s n m (p ∷ q ∷ []) held first second = rw (press_back s n p held.0 first, press_back s m q held.1 second)

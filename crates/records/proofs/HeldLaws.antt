@@ -8,8 +8,9 @@ use mathlib.Core.List.{List}
 use Prim.Native.Nat.{ℕ, ◌+◌}
 use lib.Ieee.{binary32, binary64}
 use lib.Ieee.Bits.{of_bits-fits}
-use Rattle.area.specs.Frame.{word_no, number_no, flag_no, time_no, pair_no, flags_no, pos2_no, rect_no, option_no, maybe_rect_no}
-use Rattle.records.specs.Record.{maybe_target_no, maybe_press_no, state_of}
+use Rattle.area.specs.Frame.{word_no, number_no, flag_no, time_no, pair_no, flags_no, pos2_no, rect_no, option_no, maybe_number_no, maybe_rect_no}
+use Rattle.area.specs.Parts.{target_no}
+use Rattle.records.specs.Record.{maybe_target_no, state_of}
 use Rattle.records.specs.Held.{Is32, Is64, ArePair, AreFlags, IsTarget, IsPress, IsRect, IsHeld}
 
 number : (s : List ℕ) (n : ℕ) → Is32 (number_no s n)
@@ -33,15 +34,15 @@ any_target true t held = held
 any_target false t held = tt
 
 target : (s : List ℕ) (n : ℕ) → IsTarget (maybe_target_no s n)
-unfolding maybe_target_no
-target s n = any_target (flag_no s n) _ (time s (n + 1), time s (n + 3), number s (n + 5))
+unfolding option_no target_no
+target s n = any_target (flag_no s n) _ (time s (n + 1), time s (n + 1 + 2), number s (n + 1 + 4))
 
 any_press : (given : Bool) (p : Option Float) → IsPress p → IsPress (cond given p None)
 any_press true p held = held
 any_press false p held = tt
 
-press : (s : List ℕ) (n : ℕ) → IsPress (maybe_press_no s n)
-unfolding maybe_press_no
+press : (s : List ℕ) (n : ℕ) → IsPress (maybe_number_no s n)
+unfolding option_no
 press s n = any_press (flag_no s n) _ (number s (n + 1))
 
 any_rect : (given : Bool) (r : Option Rect) → IsRect r → IsRect (cond given r None)
@@ -53,7 +54,7 @@ unfolding option_no rect_no pos2_no
 rect s n = any_rect (flag_no s n) _ (number s (n + 1), number s (n + 1 + 1), number s (n + 1 + 2), number s (n + 1 + 2 + 1))
 
 pub read_is_held : (s : List ℕ) → IsHeld (state_of s)
-unfolding state_of maybe_target_no maybe_press_no
+unfolding state_of
 read_is_held s = record {
   offset = pair s 1;
   max_offset = pair s 3;

@@ -5,6 +5,7 @@ pub mod ReadLaws
 pub mod BackLaws
 pub mod HeldLaws
 pub mod ClearedLaws
+pub mod OptionLaws
 pub mod TidiedLaws
 pub mod TidiedStateLaws
 pub mod TidiedWrittenLaws

@@ -11,8 +11,9 @@ use lib.Dec.{eqb, lit<}
 use lib.ListN.{get_or}
 use Rattle.words.specs.Words.{word_at, bytes_of}
 use Rattle.words.proofs.ReadLaws.{read_back}
-use Rattle.area.specs.Frame.{word_no, number_no, flag_no, time_no, pair_no, flags_no, pos2_no, rect_no, option_no, maybe_rect_no}
-use Rattle.records.specs.Record.{maybe_target_no, maybe_press_no, state_of}
+use Rattle.area.specs.Frame.{word_no, number_no, flag_no, time_no, pair_no, flags_no, pos2_no, rect_no, option_no, maybe_number_no, maybe_rect_no}
+use Rattle.area.specs.Parts.{target_no}
+use Rattle.records.specs.Record.{maybe_target_no, state_of}
 use Rattle.records.specs.Tidied.{words_from, words_unless, option_words, tidied}
 use Rattle.records.proofs.ReadLaws.{start, part_at}
 use Rattle.records.proofs.ClearedLaws.{tidied_parts}
@@ -52,17 +53,17 @@ unfolding flag_no
 absent s n word = ap (λ (w : ℕ). eqb w 1) word
 
 target_same : (s t : List ℕ) (n : ℕ) → AgreeOption s t n 6 → maybe_target_no t n ≡ maybe_target_no s n
-unfolding maybe_target_no
+unfolding option_no target_no
 target_same s t n (inl none) = rw (absent t n none.1, absent s n none.0)
 target_same s t n (inr same) = rw (
   flag_same s t n (same 0 n (omega arith) (lit< tt)),
   time_same s t (n + 1) (same 1 (n + 1) refl (lit< tt)) (same 2 (n + 1 + 1) (omega arith) (lit< tt)),
-  time_same s t (n + 3) (same 3 (n + 3) refl (lit< tt)) (same 4 (n + 3 + 1) (omega arith) (lit< tt)),
-  number_same s t (n + 5) (same 5 (n + 5) refl (lit< tt)),
+  time_same s t (n + 1 + 2) (same 3 (n + 1 + 2) (omega arith) (lit< tt)) (same 4 (n + 1 + 2 + 1) (omega arith) (lit< tt)),
+  number_same s t (n + 1 + 4) (same 5 (n + 1 + 4) (omega arith) (lit< tt)),
 )
 
-press_same : (s t : List ℕ) (n : ℕ) → AgreeOption s t n 2 → maybe_press_no t n ≡ maybe_press_no s n
-unfolding maybe_press_no
+press_same : (s t : List ℕ) (n : ℕ) → AgreeOption s t n 2 → maybe_number_no t n ≡ maybe_number_no s n
+unfolding option_no
 press_same s t n (inl none) = rw (absent t n none.1, absent s n none.0)
 press_same s t n (inr same) = rw (flag_same s t n (same 0 n (omega arith) (lit< tt)), number_same s t (n + 1) (same 1 (n + 1) refl (lit< tt)))
 
@@ -119,7 +120,7 @@ module _ (s t : List ℕ) (tidy : (i : ℕ) → i < 39 → word_at t i ≡ get_o
       go false e = inr (agree p m (λ j below. words j below ∙ ap (λ (b : Bool). cond b 0 (word_at s (p + j))) e))
 
   stands : state_of t ≡ state_of s
-  unfolding state_of maybe_target_no maybe_press_no
+  unfolding state_of
   stands =
       let offsets = plain 0 0 4 refl refl (lit< tt) in
       let middle = plain 3 16 8 refl refl (lit< tt) in

@@ -12,7 +12,8 @@ use Rattle.words.specs.Words.{bytes_of}
 use Rattle.numbers.specs.declared.shape.Rect.{Rect}
 use Rattle.area.specs.Pair.{num, flag}
 use Rattle.area.specs.State.{no_target, no_press}
-use Rattle.area.specs.Frame.{number_no, flag_no, time_no, time_words, pair_no, flags_no, maybe_rect_no}
+use Rattle.area.specs.Frame.{time_no, time_words, pair_no, flags_no, option_no, maybe_number_no, maybe_rect_no}
+use Rattle.area.specs.Parts.{target_no}
 use Rattle.area.specs.Outcome.{no_handle}
 use Rattle.area.specs.declared.state.State.{State}
 use Rattle.area.specs.Outcome.{Outcome}
@@ -93,14 +94,8 @@ out_words o =
     ++ (flag_word o.repaint ∷ [])))))))
 
 -- ---- read; words are numbered from 1
-unfoldable pub maybe_target_no : List ℕ → ℕ → Option ScrollingToTarget
-maybe_target_no s n =
-    cond (flag_no s n)
-    (Some (record { start = time_no s (n + 1); end = time_no s (n + 3); target_offset = number_no s (n + 5) }))
-    None
-
-unfoldable pub maybe_press_no : List ℕ → ℕ → Option Float
-maybe_press_no s n = cond (flag_no s n) (Some (number_no s (n + 1))) None
+abbrev pub maybe_target_no : List ℕ → ℕ → Option ScrollingToTarget
+maybe_target_no = option_no target_no
 
 -- the state that the bytes of a record stand for
 unfoldable pub state_of : List ℕ → State
@@ -112,7 +107,7 @@ state_of s = record {
   content_is_too_large = flags_no s 19;
   scroll_bar_interaction = flags_no s 21;
   vel = pair_no s 23;
-  scroll_start_offset_from_top_left = maybe_press_no s 25 ∷ maybe_press_no s 27 ∷ [];
+  scroll_start_offset_from_top_left = maybe_number_no s 25 ∷ maybe_number_no s 27 ∷ [];
   scroll_stuck_to_end = flags_no s 29;
   interact_rect = maybe_rect_no s 31;
   bounced_this_momentum = flags_no s 36;

@@ -5,6 +5,6 @@ mod read;
 mod tidying;
 mod write;
 
-pub use read::{is_damaged, is_no_flag, state_of};
+pub use read::{STATE, is_damaged, is_no_flag, state_of};
 pub use tidying::tidied;
-pub use write::{ToWords, put_outcome, put_pair, put_state};
+pub use write::{OUTPUTS, ToWords, put_outcome, put_pair, put_state};

@@ -4,6 +4,9 @@ ghost use Rattle.words.specs.Words.{word_at};
 ghost use Rattle.records.specs.Record.{HasRecord};
 ghost use Rattle.records.specs.Tidied as Spec;
 
+/// Where a record's options begin and end. A loop over these as a slice is laid out flat; over ranges by value it is not.
+const OPTIONS: [(usize, usize); 5] = [(4, 10), (10, 16), (24, 26), (26, 28), (30, 35)];
+
 /// The record begins at word at.
 pub fn tidied(s: &[u8], at: u32) -> [u32; 39]
     requires { HasRecord s.now at }
@@ -12,11 +15,9 @@ pub fn tidied(s: &[u8], at: u32) -> [u32; 39]
 {
     let mut words = [0; 39];
     copy(s, at, &mut words);
-    clear_absent(&mut words[4..10]);
-    clear_absent(&mut words[10..16]);
-    clear_absent(&mut words[24..26]);
-    clear_absent(&mut words[26..28]);
-    clear_absent(&mut words[30..35]);
+    for (start, end) in OPTIONS.iter() {
+        clear_absent(&mut words[*start..*end]);
+    }
     words
 }
 

@@ -6,8 +6,12 @@ ghost use Rattle.area.specs.Frame.{time_words};
 ghost use Rattle.area.specs.Outcome.{outcome_in};
 ghost use Rattle.records.specs.Record as Spec;
 
+use crate::read::STATE;
 use area::{Outputs, ScrollingToTarget, State, put_time};
 use numbers::{Ieee, Rect};
+
+/// The bytes of what a frame puts out besides the state.
+pub const OUTPUTS: usize = 100;
 
 // What is written as words, always as many of them.
 pub trait ToWords: Copy {
@@ -155,7 +159,7 @@ pub fn put_pair<T: ToWords>(bytes: &mut [u8], at: usize, pair: [T; 2])
 }
 
 // Stays: into the caller's bytes, here and in put_outcome. An array handed back would be copied there.
-pub fn put_state(bytes: &mut [u8; 156], s: State)
+pub fn put_state(bytes: &mut [u8; STATE], s: State)
     ensures { bytes.new ≡ Spec.record_of s }
 {
     put_pair(bytes, 0, s.offset);
@@ -172,7 +176,7 @@ pub fn put_state(bytes: &mut [u8; 156], s: State)
     s.remembered_time.put(bytes, 37);
 }
 
-pub fn put_outcome(bytes: &mut [u8; 100], o: Outputs)
+pub fn put_outcome(bytes: &mut [u8; OUTPUTS], o: Outputs)
     ensures { bytes.new ≡ bytes_of (Spec.out_words (outcome_in o)) }
 {
     put_pair(bytes, 0, o.content_size);

@@ -24,10 +24,6 @@ abbrev pub number_in : {A : Type 0} → Result A Refusal → ℕ
 number_in (Ok a) = 0
 number_in (Err refusal) = number_of refusal
 
-abbrev pub number_or_0 : Option Refusal → ℕ
-number_or_0 None = 0
-number_or_0 (Some refusal) = number_of refusal
-
 -- what a call answers whose refusal hands back what it was given: the number or 0, and the value
 pub record Answered (A : Type 0) : Type 0 where
   pub refusal : ℕ

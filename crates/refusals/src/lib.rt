@@ -1,13 +1,13 @@
 // Why a call is refused: documents 01 and 02 give each reason a number.
 #![tactic(auto)]
 
-ghost use Rattle.std.specs.Prelude.{◌≡◌, ℕ, IfOk, IfErr};
+ghost use Rattle.std.specs.Prelude.{◌≡◌, ℕ, if◌then◌else◌, IfOk, IfErr};
 ghost use Rattle.refusals.specs.Refusal as Spec;
 
 use std::error::Error;
 use std::fmt;
 
-#[derive(Clone, Copy, Debug, PartialEq, Eq)]
+#[derive(Clone, Copy, Debug, PartialEq, Eq, PartialOrd, Ord)]
 pub enum Refusal {
     /// 1: a frame's bytes are not exactly 416.
     FrameLength,
@@ -63,6 +63,13 @@ impl From<Refusal> for u32 {
             Refusal::DrawerFull => 15,
         }
     }
+}
+
+/// The refusal, where a check fails.
+pub fn refuse(fails: bool, refusal: Refusal) -> Result<(), Refusal>
+    ensures { Spec.number_in result ≡ (if fails then Spec.number_of refusal else 0) }
+{
+    if fails { Err(refusal) } else { Ok(()) }
 }
 
 /// The number of a refused answer, or 0.

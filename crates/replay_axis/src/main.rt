@@ -5,8 +5,8 @@
 // held to the oracle's answers, which egui's own scroll_physics.rs gave alike.
 #![tactic(auto)]
 
-mod answer;
 mod call;
+mod line;
 
 use call::Call;
 use std::io;
@@ -15,10 +15,6 @@ use streams::Records;
 
 fn main(rt: HostRuntime) -> io::Result<()> {
     let mut out = LineWriter::new(rt.alloc(), io::writer(&rt))?;
-    for call in Records::<_, Call>::new(rt.reader(), rt.alloc()) {
-        let call = call?;
-        let answer = call.answer();
-        writeln!(out, "{call} = {answer}")?;
-    }
-    Ok(())
+    let mut calls = Records::<_, Call>::new(rt.reader(), rt.alloc());
+    calls.try_for_each(|call| writeln!(out, "{}", call?.line()))
 }

@@ -13,9 +13,6 @@ use streams::Records;
 
 fn main(rt: HostRuntime) -> io::Result<()> {
     let mut out = LineWriter::new(rt.alloc(), io::writer(&rt))?;
-    for stored in Records::<_, Stored>::new(rt.reader(), rt.alloc()) {
-        let judged = stored?.judged();
-        writeln!(out, "{judged}")?;
-    }
-    Ok(())
+    let mut records = Records::<_, Stored>::new(rt.reader(), rt.alloc());
+    records.try_for_each(|stored| writeln!(out, "{}", stored?.judged()))
 }

@@ -1,16 +1,17 @@
 // A stored frame and state, and what the checks answer to them.
+use listing::FRAME_ROOM;
+use records::STATE;
 use refusals::{Refusal, number};
 use std::alloc::Global;
 use std::fmt;
 use std::io::Read;
-use streams::{NoRecord, Record, read_array, read_word};
+use streams::{NoRecord, Record, read_array, read_padded};
 
-#[derive(Clone, Copy)]
+#[derive(Drop)]
 pub struct Stored {
-    length: usize,
-    // As many as the longest frame has.
-    bytes: [u8; 424],
-    state: [u8; 156],
+    // None where its length is past the bytes.
+    frame: Option<Vec<u8>>,
+    state: [u8; STATE],
 }
 
 // Stays: both as the numbers that the line shows, 0 for none. Options would be turned into them where they are written, and nowhere else read.
@@ -21,11 +22,9 @@ pub struct Judged {
 }
 
 impl Record for Stored {
-    fn read<R: Read>(input: &mut R, _alloc: Global) -> Result<Self, NoRecord> {
-        let length = read_word(input)? as usize;
+    fn read<R: Read>(input: &mut R, alloc: Global) -> Result<Self, NoRecord> {
         Ok(Stored {
-            length,
-            bytes: read_array(input)?,
+            frame: read_padded(input, alloc, FRAME_ROOM)?,
             state: read_array(input)?,
         })
     }
@@ -34,7 +33,7 @@ impl Record for Stored {
 impl Stored {
     // A length past the bytes is a frame of the wrong length too.
     pub fn judged(&self) -> Judged {
-        let Some(frame) = self.bytes.get(..self.length) else {
+        let Some(frame) = &self.frame else {
             return Judged {
                 refusal: u32::from(Refusal::FrameLength),
                 bad_word: 0,

@@ -1,4 +1,5 @@
 // A stored call, and what follows its word.
+use records::STATE;
 use std::alloc::Global;
 use std::io::Read;
 use streams::{NoRecord, Record, read_array, read_counted, read_word};
@@ -14,7 +15,7 @@ pub enum Call {
     Put { start: usize, bytes: [u8; 4] },
     Lay,
     // An id, low word first, and a state's record.
-    Save { id: u64, state: [u8; 156] },
+    Save { id: u64, state: [u8; STATE] },
     Load { id: u64 },
     Forget { id: u64 },
 }

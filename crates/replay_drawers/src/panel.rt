@@ -1,6 +1,7 @@
 // The buffer that is kept from call to call.
 use crate::call::Call;
 use crate::line::{Line, mark_of};
+use records::STATE;
 use refusals::number;
 use std::alloc::Global;
 
@@ -51,7 +52,7 @@ impl Panel {
 
     fn load(&self, id: u64) -> Line {
         // No load writes these bytes, so that one that refuses is seen to leave them.
-        let mut state = [170; 156];
+        let mut state = [170; STATE];
         let answer = host::strakobud_drawer_load(&self.buffer, id, &mut state);
         Line {
             state: Some(mark_of(&state)),

@@ -19,16 +19,13 @@ impl fmt::Display for Answer {
             Answer::Number(x) => write!(f, " {}", Bits(x)),
             Answer::Flag(flag) => write!(f, " {}", Word(u32::from(flag))),
             Answer::Wide(x) => {
-                let bits = x.bits();
-                let (high, low) = (bits / 4294967296, bits % 4294967296);
-                write!(f, " {high:08x} {low:08x}")
+                let [low, high] = words::long_words(x.bits());
+                write!(f, " {} {}", Word(high), Word(low))
             }
             Answer::Pair(pair) => write!(f, " {} {}", Bits(pair[0]), Bits(pair[1])),
-            Answer::Corners(rect) => {
-                let (x, y) = (Bits(rect.min.x), Bits(rect.min.y));
-                write!(f, " {x} {y}")?;
-                let (x, y) = (Bits(rect.max.x), Bits(rect.max.y));
-                write!(f, " {x} {y}")
+            Answer::Corners(Rect { min, max }) => {
+                write!(f, " {} {}", Bits(min.x), Bits(min.y))?;
+                write!(f, " {} {}", Bits(max.x), Bits(max.y))
             }
         }
     }

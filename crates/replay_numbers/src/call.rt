@@ -167,7 +167,7 @@ fn align_of(kind: u32) -> Align {
 }
 
 fn f64_of(high: u32, low: u32) -> f64 {
-    f64::of_bits(u64::from(high) * 4294967296 + u64::from(low))
+    f64::of_bits(words::long_of(low, high))
 }
 
 fn rect_of(a: f32, b: f32, c: f32, d: f32) -> Rect {

@@ -1,10 +1,9 @@
 // A stored call, and what follows its word.
+use listing::{FRAME_ROOM, TABLE_ROOM};
+use records::STATE;
 use std::alloc::Global;
 use std::io::Read;
-use streams::{NoRecord, Record, read_array, read_bytes, read_counted, read_word};
-
-// Eight bytes more than a table has, so that longer ones are tried too.
-const ROOM: usize = 8208;
+use streams::{NoRecord, Record, read_array, read_counted, read_padded, read_word};
 
 #[derive(Drop)]
 pub enum Call {
@@ -15,7 +14,7 @@ pub enum Call {
     Frame(Vec<u8>),
     Reset,
     // The record that is kept from here on.
-    Given([u8; 156]),
+    Given([u8; STATE]),
 }
 
 #[derive(Clone, Copy, PartialEq, Eq)]
@@ -30,7 +29,7 @@ pub enum By {
 pub struct Run {
     pub by: By,
     pub frame: Vec<u8>,
-    pub state: [u8; 156],
+    pub state: [u8; STATE],
     pub run: [u8; 12],
     pub used: [u8; 4],
 }
@@ -39,7 +38,7 @@ impl Record for Call {
     fn read<R: Read>(input: &mut R, alloc: Global) -> Result<Self, NoRecord> {
         let kind = read_word(input)?;
         match kind {
-            1 => Ok(Call::Load(read_counted(input, alloc, ROOM)?)),
+            1 => Ok(Call::Load(read_counted(input, alloc, TABLE_ROOM)?)),
             2 => Ok(Call::Run(read_run(input, alloc, By::T)?)),
             3 => Ok(Call::Run(read_run(input, alloc, By::Table)?)),
             4 => Ok(Call::Fresh),
@@ -63,11 +62,5 @@ fn read_run<R: Read>(input: &mut R, alloc: Global, by: By) -> Result<Run, NoReco
 
 // A word, the frame's length, and 424 bytes that begin with the frame.
 fn read_frame<R: Read>(input: &mut R, alloc: Global) -> Result<Vec<u8>, NoRecord> {
-    let length = read_word(input)? as usize;
-    let mut frame = read_bytes(input, alloc, 424)?;
-    if frame.len() < length {
-        return Err(NoRecord::Over);
-    }
-    frame.truncate(length);
-    Ok(frame)
+    read_padded(input, alloc, FRAME_ROOM)?.ok_or(NoRecord::Over)
 }

@@ -1,6 +1,7 @@
 // The line of a call: its name, counts and refusals in decimal, and of a run the word of the buffer for the frames used; then
 // the words of the record after the call.
 use listing::ByteWords;
+use records::STATE;
 use std::fmt;
 
 // Stays: the refusal as the number that the line shows, 0 for none. An Option would be turned into it where it is written, and nowhere else read.
@@ -14,15 +15,15 @@ pub enum Line {
     Run {
         refusal: u32,
         used: [u8; 4],
-        record: [u8; 156],
+        record: [u8; STATE],
     },
-    Fresh([u8; 156]),
+    Fresh([u8; STATE]),
     Frame {
         refusal: u32,
-        record: [u8; 156],
+        record: [u8; STATE],
     },
-    Reset([u8; 156]),
-    Given([u8; 156]),
+    Reset([u8; STATE]),
+    Given([u8; STATE]),
 }
 
 impl fmt::Display for Line {

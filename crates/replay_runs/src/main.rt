@@ -19,9 +19,6 @@ use streams::Records;
 fn main(rt: HostRuntime) -> io::Result<()> {
     let mut out = LineWriter::new(rt.alloc(), io::writer(&rt))?;
     let mut panel = Panel::default();
-    for call in Records::<_, Call>::new(rt.reader(), rt.alloc()) {
-        let line = panel.replay(call?);
-        writeln!(out, "{line}")?;
-    }
-    Ok(())
+    let mut calls = Records::<_, Call>::new(rt.reader(), rt.alloc());
+    calls.try_for_each(|call| writeln!(out, "{}", panel.replay(call?)))
 }

@@ -1,19 +1,21 @@
 // What a panel keeps from call to call.
 use crate::call::{By, Call, Run};
 use crate::line::Line;
+use numbers::TABLE;
+use records::{OUTPUTS, STATE};
 use refusals::number;
 
 #[derive(Drop)]
 pub struct Panel {
-    table: [u8; 8200],
-    kept: [u8; 156],
+    table: [u8; TABLE],
+    kept: [u8; STATE],
 }
 
 impl Default for Panel {
     fn default() -> Self {
         Panel {
-            table: [0; 8200],
-            kept: [0; 156],
+            table: [0; TABLE],
+            kept: [0; STATE],
         }
     }
 }
@@ -45,7 +47,7 @@ impl Panel {
     }
 
     fn frame(&mut self, frame: &[u8]) -> Line {
-        let mut outputs = [0; 100];
+        let mut outputs = [0; OUTPUTS];
         let answer = host::strakobud_frame(&mut self.kept, frame, &mut outputs);
         Line::Frame {
             refusal: number(&answer),
@@ -54,12 +56,17 @@ impl Panel {
     }
 
     fn settle(&self, run: Run) -> Line {
-        let mut state = run.state;
-        let mut used = run.used;
-        let answer = match run.by {
-            By::T => host::strakobud_settle(&mut state, &run.frame, &run.run, &mut used),
+        let Run {
+            by,
+            frame,
+            mut state,
+            run,
+            mut used,
+        } = run;
+        let answer = match by {
+            By::T => host::strakobud_settle(&mut state, &frame, &run, &mut used),
             By::Table => {
-                host::strakobud_settle_by(&mut state, &run.frame, &self.table, &run.run, &mut used)
+                host::strakobud_settle_by(&mut state, &frame, &self.table, &run, &mut used)
             }
         };
         Line::Run {

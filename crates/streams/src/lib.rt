@@ -9,7 +9,9 @@ mod read;
 mod records;
 
 pub use part::Part;
-pub use read::{NoRecord, read_array, read_bytes, read_counted, read_word, read_words};
+pub use read::{
+    NoRecord, read_array, read_bytes, read_counted, read_padded, read_word, read_words,
+};
 pub use records::{Record, Records};
 use std::io;
 use std::io::Read;
@@ -69,6 +71,20 @@ mod tests {
             read_counted(&mut input, rt.alloc(), 2).is_err(),
             "three are too many"
         );
+        Ok(())
+    }
+
+    #[test]
+    fn padded_bytes(rt: HostRuntime) -> Result<(), Fail> {
+        let mut input = b"\x02\0\0\0abcd\x05\0\0\0abcd".as_slice();
+        let Ok(Some(bytes)) = read_padded(&mut input, rt.alloc(), 4) else {
+            return Err(Fail::from("two bytes"));
+        };
+        assert_eq!(rt; bytes.as_slice(), b"ab".as_slice());
+        let Ok(none) = read_padded(&mut input, rt.alloc(), 4) else {
+            return Err(Fail::from("a record"));
+        };
+        assert!(rt; none.is_none(), "five are too many");
         Ok(())
     }
 }

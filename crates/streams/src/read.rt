@@ -1,10 +1,10 @@
 // What is read whole or not at all.
-ghost use Rattle.std.specs.Prelude.{IfOk, IsErrOf, vec_len, ◌≡◌, ◌≢◌, ◌≤◌, ◌++◌};
+ghost use Rattle.std.specs.Prelude.{IfOk, IfSome, IsNone, IsErrOf, length, vec_len, ◌≡◌, ◌≢◌, ◌≤◌, ◌++◌};
 ghost use Rattle.std.specs.Int.{w32, to_le_bytes};
 ghost use Rattle.std.specs.List.{flat_map};
 ghost use Rattle.std.specs.Io.KnownBytes.{Consumes};
 ghost use Rattle.streams.specs.declared.read.NoRecord.TheVariants.{Failed, Over};
-ghost use Rattle.streams.specs.Reading.{IsCutShort};
+ghost use Rattle.streams.specs.Reading.{IsCutShort, IsPadded, IsTooLong};
 
 use crate::read_full;
 use std::alloc::{AllocError, Global};
@@ -40,9 +40,7 @@ pub fn read_array<R: Read, const N: usize>(input: &mut R) -> Result<[u8; N], NoR
     ensures over { IsErrOf result Over → IsCutShort (R.remaining input.old) (R.remaining input.new) N }
 {
     let mut bytes = [0; N];
-    if read_full(input, &mut bytes)? < N {
-        return Err(NoRecord::Over);
-    }
+    fill(input, &mut bytes)?;
     Ok(bytes)
 }
 
@@ -70,10 +68,19 @@ pub fn read_bytes<R: Read>(input: &mut R, alloc: Global, count: usize) -> Result
     ensures over { IsErrOf result Over → IsCutShort (R.remaining input.old) (R.remaining input.new) count }
 {
     let mut bytes = vec![in alloc; 0; count]?;
-    if read_full(input, &mut bytes)? < count {
+    fill(input, &mut bytes)?;
+    Ok(bytes)
+}
+
+// The whole buffer, or Over where the input ends before that.
+fn fill<R: Read>(input: &mut R, buffer: &mut [u8]) -> Result<(), NoRecord>
+    ensures whole { IfOk result (λ _. Consumes (R.remaining input.old) (R.remaining input.new) buffer.new) }
+    ensures over { IsErrOf result Over → IsCutShort (R.remaining input.old) (R.remaining input.new) (length buffer.new) }
+{
+    if read_full(input, buffer)? < buffer.len() {
         return Err(NoRecord::Over);
     }
-    Ok(bytes)
+    Ok(())
 }
 
 /// A word n, at most `most`, and n bytes.
@@ -86,4 +93,22 @@ pub fn read_counted<R: Read>(input: &mut R, alloc: Global, most: usize) -> Resul
         return Err(NoRecord::Over);
     }
     read_bytes(input, alloc, count)
+}
+
+/// A word n, and `room` bytes that begin with n; None where n is more than there are.
+pub fn read_padded<R: Read>(
+    input: &mut R,
+    alloc: Global,
+    room: usize,
+) -> Result<Option<Vec<u8>>, NoRecord>
+    ensures some { IfOk result (λ read. IfSome read (λ bytes. IsPadded (R.remaining input.old) (R.remaining input.new) room bytes.items)) }
+    ensures none { IfOk result (λ read. IsNone read → IsTooLong (R.remaining input.old) (R.remaining input.new) room) }
+{
+    let count = read_word(input)? as usize;
+    let mut bytes = read_bytes(input, alloc, room)?;
+    if room < count {
+        return Ok(None);
+    }
+    bytes.truncate(count);
+    Ok(Some(bytes))
 }

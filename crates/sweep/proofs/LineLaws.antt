@@ -48,9 +48,9 @@ one_more s m zero rest = rw add-zero
 one_more s m (suc n) rest =
     ap (λ (l : List ℕ). digit_after s (suc m) ∷ l) (rw (add-suc, ← suc-add m n) (one_more s (suc m) n rest))
 
--- n digits, and line feeds up to 105 bytes
+-- n digits, and line feeds up to 104 bytes
 abbrev pub written : List ℕ → ℕ → List ℕ
-written s n = digits_from s 0 n ++ replicate (105 - n) 10
+written s n = digits_from s 0 n ++ replicate (104 - n) 10
 
 pub turns : (s line : List ℕ) (n digit : ℕ) → n < 104 → digit ≡ digit_after s (n + 1) → line ≡ written s n → set line n digit ≡ written s (n + 1)
 turns s line n digit l digit_is line-is =
@@ -58,12 +58,12 @@ turns s line n digit l digit_is line-is =
     (set_next s 0 n 10 (digit_after s (suc n)) rest ∙ ap (λ (k : ℕ). digits_from s 0 n ++ (digit_after s (suc k) ∷ rest)) (sym (zero-add n)) ∙ one_more s 0 n rest ∙ rw right)
   where
     rest : List ℕ
-    rest = replicate (104 - n) 10
+    rest = replicate (103 - n) 10
 
-    left : 105 - n ≡ suc (104 - n)
+    left : 104 - n ≡ suc (103 - n)
     left = omega (arith, l)
 
-    right : 105 - suc n ≡ 104 - n
+    right : 104 - suc n ≡ 103 - n
     right = omega (arith, l)
 
     add_one : n + 1 ≡ suc n

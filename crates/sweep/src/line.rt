@@ -9,13 +9,14 @@ pub fn line_of(frame: &[u8]) -> [u8; 105]
 {
     // The last byte stays a line feed.
     let mut line = [b'\n'; 105];
-    for n in 0..104 {
-        line[n] = digit_after(frame, n + 1);
+    for (n, digit) in line[..104].iter_mut().enumerate() {
+        *digit = digit_after(frame, n + 1);
     }
     line
 }
 
 // The number kept after n words, as ASCII.
+#[tactic(auto, using(crate::proofs::LineLaws::digit_is))]
 fn digit_after(frame: &[u8], n: usize) -> u8
     requires { n < 105 }
     ensures { result ≡ Spec.digit_after frame.now n }
@@ -27,8 +28,5 @@ fn digit_after(frame: &[u8], n: usize) -> u8
 fn number_after(frame: &[u8], n: u32) -> u32
     ensures { result ≡ (swept_of frame.now n).kept }
 {
-    match area::sweep_words(frame, n).kept {
-        None => 0,
-        Some(refusal) => u32::from(refusal),
-    }
+    refusals::number(&area::sweep_words(frame, n).kept)
 }

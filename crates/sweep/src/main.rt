@@ -4,6 +4,7 @@
 
 mod line;
 
+use area::FRAME;
 use line::line_of;
 use std::io;
 use std::io::{LineWriter, Write};
@@ -11,9 +12,9 @@ use streams::{Part, Records};
 
 fn main(rt: HostRuntime) -> io::Result<()> {
     let mut out = LineWriter::new(rt.alloc(), io::writer(&rt))?;
-    for frame in Records::<_, Part<416>>::new(rt.reader(), rt.alloc()) {
+    for frame in Records::<_, Part<FRAME>>::new(rt.reader(), rt.alloc()) {
         let frame = frame?.bytes;
-        if frame.len() < 416 {
+        if frame.len() < FRAME {
             writeln!(out, "1")?;
         } else {
             out.write_all(&line_of(&frame))?;

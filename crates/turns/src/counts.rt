@@ -29,21 +29,29 @@ impl Counts {
 
 impl fmt::Display for Counts {
     fn fmt<W: fmt::Write>(&self, f: &mut fmt::Formatter<W>) -> fmt::Result {
-        let run = self.run;
+        let Counts {
+            run,
+            refused,
+            stray,
+            other_than_momentum,
+            bounced,
+        } = *self;
         write!(f, "{run} turns were run, ")?;
-        write_count(f, self.refused, "none refused", " refused")?;
+        write_count(f, refused, "none refused", " refused")?;
         write!(f, "; ")?;
         write_count(
             f,
-            self.stray,
+            stray,
             "each belongs to exactly one row",
             " belong to no row or to more than one",
         )?;
-        let others = self.other_than_momentum;
-        write!(f, ". Of the {others} from another source than Momentum ")?;
+        write!(
+            f,
+            ". Of the {other_than_momentum} from another source than Momentum "
+        )?;
         write_count(
             f,
-            self.bounced,
+            bounced,
             "all end with the bounce flag clear",
             " end with the bounce flag set",
         )?;

@@ -11,6 +11,8 @@ const SOURCES: [Option<WheelSource>; 5] = [
     Some(WheelSource::Momentum),
 ];
 
+const BOTH: [bool; 2] = [false, true];
+
 #[derive(Clone, Copy)]
 pub struct Turn {
     pub place: Place,
@@ -23,35 +25,40 @@ pub struct Turn {
     pub dt: f32,
 }
 
-impl Turn {
-    // The choices' five bits choose what is one of two.
-    fn new(place: Place, source: Option<WheelSource>, choices: u8) -> Self {
-        Turn {
-            place,
-            source,
-            rubber_band: choices & 1 != 0,
-            parent: choices & 2 != 0,
-            bounced: choices & 4 != 0,
-            vel: if choices & 8 != 0 { 40.0 } else { -0.0 },
-            dt: if choices & 16 != 0 { 0.015625 } else { 0.0 },
-        }
-    }
-}
-
 pub fn grid(alloc: Global) -> Result<Vec<Turn>, AllocError> {
     let mut turns = Vec::new(alloc);
     for offset in OFFSETS {
         for delta in DELTAS {
-            add_turns(&mut turns, Place::new(offset, delta))?;
+            for source in SOURCES {
+                add_turns(&mut turns, Place::new(offset, delta), source)?;
+            }
         }
     }
     Ok(turns)
 }
 
-fn add_turns(turns: &mut Vec<Turn>, place: Place) -> Result<(), AllocError> {
-    for source in SOURCES {
-        for choices in 0..32 {
-            turns.push(Turn::new(place, source, choices))?;
+fn add_turns(
+    turns: &mut Vec<Turn>,
+    place: Place,
+    source: Option<WheelSource>,
+) -> Result<(), AllocError> {
+    for rubber_band in BOTH {
+        for parent in BOTH {
+            for bounced in BOTH {
+                for vel in [-0.0, 40.0] {
+                    for dt in [0.0, 0.015625] {
+                        turns.push(Turn {
+                            place,
+                            source,
+                            rubber_band,
+                            parent,
+                            bounced,
+                            vel,
+                            dt,
+                        })?;
+                    }
+                }
+            }
         }
     }
     Ok(())

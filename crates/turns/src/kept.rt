@@ -26,47 +26,57 @@ pub struct Kept {
 impl Kept {
     // None where no turn of the row was run.
     pub fn over(row: &Row, runs: &[Ran]) -> Option<Self> {
-        if !runs.iter().any(|ran| row.has(ran.turn)) {
+        let turns = RowTurns { row, runs };
+        if turns.is_empty() {
             return None;
         }
         Some(Kept {
-            taken: taken_over(row, runs),
-            leaves: leaves_over(row, runs),
+            taken: turns.taken(),
+            leaves: turns.leaves(),
         })
     }
 }
 
-fn taken_over(row: &Row, runs: &[Ran]) -> Taken {
-    if all(row, runs, |ran| ran.taken) {
-        Taken::Yes
-    } else if all(row, runs, |ran| !ran.taken) {
-        Taken::No
-    } else {
-        Taken::Mixed
-    }
+// Of the turns that were run, those of a row.
+#[derive(Clone, Copy)]
+struct RowTurns<'a> {
+    row: &'a Row,
+    runs: &'a [Ran],
 }
 
-fn leaves_over(row: &Row, runs: &[Ran]) -> Leaves {
-    if all(
-        row,
-        runs,
-        |ran| ran.offset_as_given && ran.velocity_as_given,
-    ) {
-        Leaves::AsGiven
-    } else if all(row, runs, |ran| ran.offset_inside && ran.velocity_as_given) {
-        Leaves::Inside
-    } else {
-        Leaves::MayChange
+impl RowTurns<'_> {
+    fn is_empty(&self) -> bool {
+        !self.runs.iter().any(|ran| self.row.has(ran.turn))
     }
-}
 
-// Of the row's turns.
-fn all<F: Fn(&Ran) -> bool>(row: &Row, runs: &[Ran], holds: F) -> bool
-    requires { F.IsAlwaysCallable holds }
-{
-    runs.iter()
-        .filter(|ran| row.has(ran.turn))
-        .all(|ran| holds(ran))
+    fn taken(&self) -> Taken {
+        if self.all(|ran| ran.taken) {
+            Taken::Yes
+        } else if self.all(|ran| !ran.taken) {
+            Taken::No
+        } else {
+            Taken::Mixed
+        }
+    }
+
+    fn leaves(&self) -> Leaves {
+        if self.all(|ran| ran.offset_as_given && ran.velocity_as_given) {
+            Leaves::AsGiven
+        } else if self.all(|ran| ran.offset_inside && ran.velocity_as_given) {
+            Leaves::Inside
+        } else {
+            Leaves::MayChange
+        }
+    }
+
+    fn all<F: Fn(&Ran) -> bool>(&self, holds: F) -> bool
+        requires { F.IsAlwaysCallable holds }
+    {
+        self.runs
+            .iter()
+            .filter(|ran| self.row.has(ran.turn))
+            .all(|ran| holds(ran))
+    }
 }
 
 impl Taken {

@@ -27,7 +27,7 @@ struct Line<'a> {
 
 impl fmt::Display for Line<'_> {
     fn fmt<W: fmt::Write>(&self, f: &mut fmt::Formatter<W>) -> fmt::Result {
-        let row = self.row;
+        let Line { row, kept } = *self;
         let sources = row.sources.name();
         let rubber_band = row.rubber_band.name_of("on", "off");
         let can_move = row.can_move.name();
@@ -36,8 +36,8 @@ impl fmt::Display for Line<'_> {
         let parent = row.parent.name_of("yes", "no");
         let bounced = row.bounced.name_of("yes", "no");
         write!(f, "| {outside:7} | {parent:6} | {bounced:7} ")?;
-        let taken = self.kept.map_or("unrun", |kept| kept.taken.name());
-        let leaves = self.kept.map_or("unrun", |kept| kept.leaves.name());
+        let taken = kept.map_or("unrun", |kept| kept.taken.name());
+        let leaves = kept.map_or("unrun", |kept| kept.leaves.name());
         let by = row.by.name();
         write!(f, "| {taken:5} | {leaves:32} | {by:10} |")
     }

@@ -1,5 +1,6 @@
 // A turn that was run.
 use crate::grid::Turn;
+use crate::places::Place;
 use axis::{AxisPhysics, KineticScrollStyle, WheelScroll, Wheeled};
 use numbers::{Ieee, Rangef};
 
@@ -17,15 +18,16 @@ pub struct Ran {
 
 impl Turn {
     pub fn run(self) -> Ran {
-        let offset = self.place.offset;
+        let Place { offset, delta, .. } = self.place;
         let scroll = WheelScroll {
-            delta: self.place.delta,
+            delta,
             source: self.source,
             can_chain_to_parent: self.parent,
             dt: self.dt,
         };
         let axis = axis_of(self.rubber_band);
         let answer = axis::call::wheel(axis, offset, self.vel, scroll, self.bounced);
+        // Stays: what was given, here and in replay_axis. A constructor in axis would take the same three.
         let wheeled = answer.unwrap_or(Wheeled {
             offset,
             vel: self.vel,
@@ -38,7 +40,7 @@ impl Turn {
             taken: wheeled.consumed,
             bounced: wheeled.bounced_this_momentum,
             offset_as_given: is_same(wheeled.offset, offset),
-            offset_inside: 0.0 <= wheeled.offset && wheeled.offset <= 300.0,
+            offset_inside: axis.bounds.contains(wheeled.offset),
             velocity_as_given: is_same(wheeled.vel, self.vel),
         }
     }

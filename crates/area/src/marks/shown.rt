@@ -17,14 +17,15 @@ impl Shown {
     ghost use Rattle.area.specs.Marks as Spec;
 
     /// What is kept of this and of what was kept before. Few words show anything: what comes of one stays out of the way of the others.
+    #[tactic(auto, unfolding(crate::specs::Marks::lower_mark))]
     #[cold]
     #[inline(never)]
-    pub fn beside(self, kept: Option<Shown>) -> Option<Shown>
-        ensures { Spec.mark_in result ≡ Spec.lower_mark (Spec.mark_of self) (Spec.mark_in kept) }
+    pub fn beside(self, kept: Option<Shown>) -> Shown
+        ensures { Spec.mark_of result ≡ Spec.lower_mark (Spec.mark_of self) (Spec.mark_in kept) }
     {
         match kept {
-            Some(other) if !self.comes_before(other) => kept,
-            _ => Some(self),
+            Some(other) if !self.comes_before(other) => other,
+            _ => self,
         }
     }
 
@@ -32,8 +33,6 @@ impl Shown {
     fn comes_before(self, other: Shown) -> bool
         ensures { result ≡ nat_lt (Spec.mark_of self) (Spec.mark_of other) }
     {
-        let own = u32::from(self.refusal);
-        let others = u32::from(other.refusal);
-        own < others || (own == others && self.word < other.word)
+        (self.refusal, self.word) < (other.refusal, other.word)
     }
 }

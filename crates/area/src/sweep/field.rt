@@ -5,9 +5,9 @@ ghost use Rattle.area.specs.Layout.{Row};
 ghost use Rattle.area.specs.Marks as Spec;
 
 use super::walk::Walk;
-use crate::marks::{Flag, Plain, Word, check_end, refuse};
+use crate::marks::{Flag, Plain, Word, check_end};
 use numbers::Ieee;
-use refusals::Refusal;
+use refusals::{Refusal, refuse};
 
 /// Some words in a row, as a type: no value of it is made.
 pub trait Field {
@@ -58,6 +58,7 @@ impl<W: Word> Field for [W; 2] {
         2
     }
 
+    #[tactic(auto, unfolding(crate::specs::Marks::sweep_rows))]
     #[inline(always)]
     fn sweep<'a>(walk: Walk<'a>, n: u32) -> Walk<'a> {
         walk.check::<W>(n).check::<W>(n + 1)
@@ -130,9 +131,7 @@ impl Field for Time {
 
     #[inline(always)]
     fn sweep<'a>(walk: Walk<'a>, n: u32) -> Walk<'a> {
-        let low = u64::from(walk.word(n));
-        let high = u64::from(walk.word(n + 1));
-        let t = f64::of_bits(high * 4294967296 + low);
+        let t = f64::of_bits(words::long_of(walk.word(n), walk.word(n + 1)));
         let is_outside = !((0.0 <= t) & (t <= 4294967296.0));
         walk.keep(n + 1, refuse(is_outside, Refusal::Exceeds))
     }

@@ -7,6 +7,7 @@ ghost use Rattle.area.specs.Sweep.{numbers_of};
 
 use super::Swept;
 use super::field::Field;
+use crate::frame::FRAME;
 use crate::marks::{Shown, Word};
 use refusals::Refusal;
 use std::marker::Model;
@@ -14,7 +15,7 @@ use std::marker::Model;
 /// How many of the frame's words are taken, and what is kept of what they show; words after the last leave both.
 #[derive(Drop)]
 pub struct Walk<'a> {
-    frame: &'a [u8; 416],
+    frame: &'a [u8; FRAME],
     last: u32,
     count: u32,
     kept: Option<Shown>,
@@ -29,7 +30,7 @@ impl<'a> Model for Walk<'a> {
 }
 
 impl<'a> Walk<'a> {
-    pub fn new(frame: &'a [u8; 416], last: u32) -> Walk<'a>
+    pub fn new(frame: &'a [u8; FRAME], last: u32) -> Walk<'a>
         ensures { result ≡ record { bytes = frame.now; last = last; walk = record { count = 0; mark = 0 } } }
     {
         Walk {
@@ -41,11 +42,12 @@ impl<'a> Walk<'a> {
     }
 
     /// Word n.
-    // Stays: a word's number with its bounds. The numbers are constants, and a type round them would stand at each of some ninety.
+    // Stays: a word's number with its bounds. The numbers are constants, and a type round them would stand at each of some fifty.
     pub fn word(&self, n: u32) -> u32
         requires { (0 < n) × (n ≤ 104) }
         ensures { result ≡ word_no self.now.bytes n }
     {
+        // Stays: copied first. The borrow checker covers no slice of an array behind a field.
         let frame = self.frame;
         words::word_in(frame, n - 1)
     }
@@ -62,7 +64,8 @@ impl<'a> Walk<'a> {
         if is_after {
             return self;
         }
-        self.kept = Shown { refusal, word: n }.beside(self.kept);
+        let shown = Shown { refusal, word: n }.beside(self.kept);
+        self.kept = Some(shown);
         self
     }
 
@@ -93,7 +96,7 @@ impl<'a> Walk<'a> {
     {
         Swept {
             count: self.count,
-            kept: self.kept.map(|shown| shown.refusal),
+            kept: self.kept.map_or(Ok(()), |shown| Err(shown.refusal)),
         }
     }
 
@@ -107,6 +110,7 @@ impl<'a> Walk<'a> {
 }
 
 // So many words more, up to the last.
+#[tactic(auto, unfolding(crate::specs::Marks::counted_of))]
 fn counted(count: u32, last: u32, words: u32) -> u32
     ensures { result ≡ Spec.counted_of count last words }
 {

@@ -1,8 +1,7 @@
-use mathlib.Core.Path.{◌≡◌, sym, ap, ◌∙◌}
-use Prim.Native.Nat.{ℕ}
+use mathlib.Core.Path.{sym, ap, ◌∙◌}
 use native.Mathlib.Omega.{arith}
 use lib.ListN.{length}
-use Rattle.drawer.proofs.FillLaws.{fresh_up_to, fresh_first, fresh_next, fresh_all, fresh_length, fresh_start}
+use Rattle.drawer.proofs.FillLaws.{fresh_up_to, fresh_first, fresh_next, fresh_length, fresh_start}
 use Rattle.drawer.proofs.laying.fill.Goals as goal
 
 pub loop-r-init : goal.loop-r-init
@@ -21,11 +20,3 @@ loop-r-preserved c =
       c.put_free.ensures
           ∙ rw (c.next_free.ensures, c.loop-r.invariant.1) (fresh_next c.args.count c.loop-r.r s (omega arith)),
     )
-
-pub returns : goal.returns
-returns c =
-    let s = c.put_first.new.drawer in
-    let done : c.loop-r.r ≡ c.args.count = omega arith in
-    c.loop-r.invariant.1
-    ∙ ap (λ (i : ℕ). fresh_up_to c.args.count i s) done
-    ∙ fresh_all c.args.count s c.loop-r.invariant.0

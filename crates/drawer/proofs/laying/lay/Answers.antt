@@ -1,19 +1,11 @@
 use mathlib.Core.Path.{◌≡◌}
 use lib.ListN.{length}
-use Rattle.std.proofs.lemmas.Result.{err_from_is_err_and}
 use Rattle.drawer.specs.Calls.{lay_on}
-use Rattle.drawer.proofs.AnswerLaws.{missed, given}
+use Rattle.drawer.proofs.AnswerLaws.{given}
 use Rattle.drawer.proofs.SizeLaws.{whole_parts}
 use Rattle.drawer.proofs.CaseLaws.{laid_whole}
 use Rattle.drawer.proofs.ListLaws.{with_lists}
 use Rattle.drawer.proofs.laying.lay.Goals as goal
-
-pub returns-in_err-count-clause-answers : goal.returns-in_err-count-clause-answers
-unfolding lay_on
-returns-in_err-count-clause-answers c =
-    let p = err_from_is_err_and c.from_residual.result c.from_residual.ensures.1 in
-    let m = missed c.count_of.result c.ok_or.result _ c.in_err-count.field-0.0 _ c.ok_or.ensures.value (c.in_err-count.was) c.count_of.ensures.part in
-    rw (p.1, p.2, m.0, m.1)
 
 pub fill-requires : goal.fill-requires
 fill-requires c =

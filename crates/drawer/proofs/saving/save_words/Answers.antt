@@ -3,18 +3,11 @@ use Prim.Native.Nat.{ℕ, ◌<◌}
 use native.Mathlib.Omega.{arith}
 use lib.ListN.{length, get_or}
 use borrow.Author.Rules.{rules}
-use Rattle.std.proofs.lemmas.Result.{err_from_is_err_and}
 use Rattle.drawer.specs.Calls.{put_on}
-use Rattle.drawer.proofs.AnswerLaws.{missed, given}
-use Rattle.drawer.proofs.CaseLaws.{put_bad, put_full, put_new, put_over}
+use Rattle.drawer.proofs.AnswerLaws.{given}
+use Rattle.drawer.proofs.CaseLaws.{put_new, put_over}
 use Rattle.drawer.proofs.StayLaws.{with_put}
 use Rattle.drawer.proofs.saving.save_words.Goals as goal
-
-pub returns-in_err-held-clause-answers : goal.returns-in_err-held-clause-answers
-returns-in_err-held-clause-answers c =
-    let p = err_from_is_err_and c.from_residual.result c.from_residual.ensures.1 in
-    let none = c.in_err-held.ensures.refused in
-    rw (p.1, p.2, none.0, put_bad c.args.drawer.now c.args.id c.args.words.now none.1)
 
 pub returns-in-Some : goal.returns-in-Some
 returns-in-Some c =
@@ -27,14 +20,6 @@ returns-in-Some c =
     let long : length ws ≡ 39 = search rules in
     let small : (i : ℕ) → get_or ws i 0 < 4294967296 = λ i. search rules in
     record { answers = answers; kept = with_put s c.put.new.bytes c.args.id ws (omega arith) long small c.requires answers }
-
-pub returns-in_err-place-clause-answers : goal.returns-in_err-place-clause-answers
-returns-in_err-place-clause-answers c =
-    let p = err_from_is_err_and c.from_residual-in_err-place.result c.from_residual-in_err-place.ensures.1 in
-    let held = c.in_ok-held.ensures.drawer in
-    let absent = rw held.0 at c.in_default.ensures.absent in
-    let full = rw held.0 at (missed c.vacancy.result c.ok_or.result _ c.in_err-place.field-0.0 _ c.ok_or.ensures.value c.in_err-place.was c.vacancy.ensures.full) in
-    rw (p.1, p.2, full.0, put_full c.args.drawer.now c.args.id c.args.words.now held.1 absent full.1)
 
 pub returns : goal.returns
 returns c =

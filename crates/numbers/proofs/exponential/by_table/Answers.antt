@@ -6,10 +6,6 @@ use Rattle.numbers.proofs.LoadLaws.{lent_at_most}
 use Rattle.numbers.proofs.ExpLaws.{range}
 use Rattle.numbers.proofs.exponential.by_table.Goals as goal
 
-pub returns-then-x : goal.returns-then-x
-unfolding by_table
-returns-then-x c = rw c.if-x.true
-
 pub truncating_f32_to_u64-k-requires : goal.truncating_f32_to_u64-k-requires
 unfolding of_bits neg
 truncating_f32_to_u64-k-requires c = record { lower_bound = (range c.args.x c.if-x.false c.if-x-2.true).0; upper_bound = (range c.args.x c.if-x.false c.if-x-2.true).1 }

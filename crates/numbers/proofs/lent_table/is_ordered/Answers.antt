@@ -1,15 +1,17 @@
-use Rattle.std.proofs.Common.{◌≡◌, sym, ap, ◌∙◌, arith}
-use Rattle.numbers.specs.Table.{is_ordered}
-use Rattle.numbers.proofs.LoadLaws.{other_first, rises}
+use Rattle.std.proofs.Common.{rules, ◌+◌, ◌<◌, ◌≤◌, ◌∙◌, refl}
+use Rattle.std.proofs.lemmas.Iterator.{cases_from_all, YieldsList-from_range}
+use borrow.Author.Tests.{ne_eqb, tests}
+use Rattle.words.specs.Words.{long_at}
+use Rattle.numbers.proofs.LoadLaws.{other_first, told_by_all}
 use Rattle.numbers.proofs.lent_table.is_ordered.Goals as goal
 
-pub returns-then-first-ne-FIRST : goal.returns-then-first-ne-FIRST
-returns-then-first-ne-FIRST c = other_first c.args.bytes.now 1024 (λ e. c.if-first-ne-FIRST.true (omega arith))
+pub returns-then-first-eq-FIRST : goal.returns-then-first-eq-FIRST
+returns-then-first-eq-FIRST c =
+    told_by_all c.args.bytes.now 1024 (search rules) c.all.result
+    (cases_from_all _ _ _ (λ k. long_at c.args.bytes.now (k + 1) ≤ long_at c.args.bytes.now k) (λ k. long_at c.args.bytes.now k < long_at c.args.bytes.now (k + 1)) c.all.ensures.ran
+    (YieldsList-from_range 0 1024 1024 refl refl)
+    (λ x q k. search (rules, tests))
+    (λ x q k. search (rules, tests)))
 
-pub returns-then-long_in : goal.returns-then-long_in
-returns-then-long_in c = rises c.args.bytes.now c.loop-k.k 1024 (omega arith) (omega arith)
-
-pub returns : goal.returns
-returns c =
-    let last : c.loop-k.k ≡ 1024 = omega arith in
-    sym c.loop-k.invariant ∙ ap (is_ordered c.args.bytes.now) last
+pub returns-else-first-eq-FIRST : goal.returns-else-first-eq-FIRST
+returns-else-first-eq-FIRST c = rw (ne_eqb _ _ c.if-first-eq-FIRST.false) (other_first c.args.bytes.now 1024 (λ e. c.if-first-eq-FIRST.false (c.long_in-first.ensures ∙ e)))

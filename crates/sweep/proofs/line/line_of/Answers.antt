@@ -1,4 +1,5 @@
-use Rattle.std.proofs.Common.{◌≡◌, ◌<◌, refl, ap, ◌∙◌, arith, length-set}
+use Rattle.std.proofs.Common.{◌≡◌, ◌<◌, [], ◌∷◌, ◌++◌, refl, ap, ◌∙◌, arith, length-set}
+use mathlib.Core.List.{append-nil}
 use Rattle.sweep.specs.Line.{digits_from, line_of}
 use Rattle.sweep.proofs.LineLaws.{written, turns}
 use Rattle.sweep.proofs.line.line_of.Goals as goal
@@ -11,11 +12,11 @@ pub loop-n-preserved : goal.loop-n-preserved
 loop-n-preserved c =
     let l = c.loop-n in
     let h : l.n < 104 = omega arith in
-    (length-set l.line l.n _ ∙ l.invariant.0, turns _ l.line l.n _ h c.digit_after.ensures l.invariant.1)
+    (length-set l.digit-items l.n _ ∙ l.invariant.0, turns _ l.digit-items l.n _ h c.digit_after.ensures l.invariant.1)
 
 pub returns : goal.returns
 unfolding line_of
 returns c =
     let l = c.loop-n in
     let h : l.n ≡ 104 = omega arith in
-    l.invariant.1 ∙ ap (written _) h
+    ap (λ digits. digits ++ (10 ∷ [])) (l.invariant.1 ∙ ap (written _) h ∙ append-nil _)

@@ -10,10 +10,6 @@ more count last words l = go (nat_lt (last - count) words) refl
     go true e = omega (arith, ltb-true (last - count) words e)
     go false e = omega (arith, ltb-false (last - count) words e)
 
-pub returns-then-has_ended : goal.returns-then-has_ended
-unfolding counted_of
-returns-then-has_ended c = rw c.if-has_ended.true-raw
-
 pub returns : goal.returns
 unfolding counted_of
 returns c = rw (c.if-has_ended.false-raw, c.min.ensures) (more c.args.count c.args.last c.args.words c.if-has_ended.false)

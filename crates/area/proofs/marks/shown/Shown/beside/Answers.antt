@@ -10,7 +10,3 @@ returns-in-Some c = rw (c.in-Some.is, some_mark c.in-Some.other, sym c.comes_bef
 pub returns-in_default : goal.returns-in_default
 unfolding lower_mark
 returns-in_default c = rw (c.in-Some.is, some_mark c.in-Some.other, sym c.comes_before.ensures ∙ c.if-not-comes_before.false)
-
-pub returns-in_default-2 : goal.returns-in_default-2
-unfolding lower_mark
-returns-in_default-2 c = rw c.in_default.is

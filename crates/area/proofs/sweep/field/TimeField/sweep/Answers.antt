@@ -9,4 +9,4 @@ pub returns : goal.returns
 unfolding kept_with sweep_rows shown_by is_heeded is_shown shows2 shows3 shows4 shows5 time_no
 returns c =
     c.keep.ensures
-    ∙ rw (add-sub_cancel, c.refuse.ensures, c.of_bits-t.ensures, c.from-high.ensures, c.word-2.ensures, c.from-low.ensures, c.word.ensures)
+    ∙ rw (add-sub_cancel, c.refuse.ensures, c.of_bits-t.ensures, c.long_of.ensures, c.word-2.ensures, c.word.ensures)
