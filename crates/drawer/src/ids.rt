@@ -12,11 +12,11 @@ use crate::layout::Records;
 pub struct Ids<'a, const WIDTH: u32> {
     records: Records<'a, WIDTH>,
     next: u32,
-    // Stays: a walk of its own, as seek and tour. They answer the link before a record, and what no record shows: an end or a bad index.
     // Stays: counted down. A chain of a buffer that is not yet a drawer may be a ring.
     left: u32,
 }
 
+// Stays: a walk of its own, as seek and tour. They answer the link before a record, and what no record shows: an end or a bad index.
 impl<const WIDTH: u32> Iterator for Ids<'_, WIDTH> {
     type Item = u64;
 

@@ -1,7 +1,7 @@
 // The library that a panel links: each call takes and gives bytes, and include/strakobud.h says which.
-// Stays: a table as bytes of any length. Each public call takes every length, and one of another than 8,200 stands for T.
+// Stays: a table as bytes of any length inside the calls, which have it of 8,200 or not at all: no bytes stand for T.
 // Stays: the answer's record in each clause. It is the definition's value, and host_c's are these with the number for the Result.
-// Stays: 156, 100, 416 and 8,200 as numbers. include/strakobud.h and the clauses write them so.
+// Stays: 156, 100 and 8,200 as numbers. include/strakobud.h and the clauses write them so.
 #![tactic(auto)]
 
 mod area_calls;

@@ -2,7 +2,7 @@
 use crate::call::Call;
 use crate::line::{Line, mark_of};
 use records::STATE;
-use refusals::number;
+use refusals::{Refusal, number};
 use std::alloc::Global;
 
 #[derive(Drop)]
@@ -22,21 +22,21 @@ impl Panel {
         match call {
             Call::Given(bytes) => {
                 self.buffer = bytes;
-                Some(self.line("given", 0))
+                Some(self.line("given", &Ok(())))
             }
             Call::Put { start, bytes } => self.put(start, bytes),
             Call::Lay => {
                 let answer = host::strakobud_drawer_lay(&mut self.buffer);
-                Some(self.line("lay", number(&answer)))
+                Some(self.line("lay", &answer))
             }
             Call::Save { id, state } => {
                 let answer = host::strakobud_drawer_save(&mut self.buffer, id, &state);
-                Some(self.line("save", number(&answer)))
+                Some(self.line("save", &answer))
             }
             Call::Load { id } => Some(self.load(id)),
             Call::Forget { id } => {
                 let answer = host::strakobud_drawer_forget(&mut self.buffer, id);
-                Some(self.line("forget", number(&answer)))
+                Some(self.line("forget", &answer))
             }
         }
     }
@@ -47,7 +47,7 @@ impl Panel {
             .as_mut_slice()
             .get_mut(start..end)?
             .copy_from_slice(&bytes);
-        Some(self.line("put", 0))
+        Some(self.line("put", &Ok(())))
     }
 
     fn load(&self, id: u64) -> Line {
@@ -56,14 +56,14 @@ impl Panel {
         let answer = host::strakobud_drawer_load(&self.buffer, id, &mut state);
         Line {
             state: Some(mark_of(&state)),
-            ..self.line("load", number(&answer))
+            ..self.line("load", &answer)
         }
     }
 
-    fn line(&self, name: &'static str, refusal: u32) -> Line {
+    fn line(&self, name: &'static str, answer: &Result<(), Refusal>) -> Line {
         Line {
             name,
-            refusal,
+            refusal: number(answer),
             buffer: mark_of(&self.buffer),
             state: None,
         }

@@ -14,7 +14,7 @@ use std::io;
 use std::io::{LineWriter, Write};
 use streams::Records;
 
-// Stays: alike in four replays but for their types. One for all, which was proved, has more lines than it saves.
+// Stays: alike in replay_runs but for its types, and nearly in others. One for all, which was proved, has more lines than it saves.
 fn main(rt: HostRuntime) -> io::Result<()> {
     let mut out = LineWriter::new(rt.alloc(), io::writer(&rt))?;
     let mut run = Run::default();
