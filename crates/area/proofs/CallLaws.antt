@@ -19,7 +19,7 @@ use Rattle.area.specs.Call.{run_of, call_under}
 use Rattle.area.specs.Steps.{begun_at, ended_at, outputs_at, check_at, step_at, is_accepted}
 use Rattle.area.specs.Moved.{ended_on, extent_on}
 use Rattle.area.specs.declared.state.State.{State}
-use Rattle.area.specs.Fields.{Frame}
+use Rattle.area.specs.declared.fields.Frame.{Frame}
 use Rattle.area.specs.declared.end.Ended.{Ended}
 use Rattle.area.specs.Outcome.{Answer, Outcome}
 use Rattle.numbers.proofs.TestLaws.{and_left, and_right, both_zero}

@@ -33,7 +33,7 @@ use Rattle.area.specs.Steps.{begun_at, ended_at, step_at, is_accepted}
 use Rattle.area.specs.Moved.{ended_on, extent_on, is_some_pos2, is_drag_heeded, is_press_heeded, is_moved_in, is_moved}
 use Rattle.area.specs.Lists.{maximum_offset, list_end, IsOnEnd}
 use Rattle.area.specs.declared.prepared.AxisBefore.{AxisBefore}
-use Rattle.area.specs.Fields.{Frame}
+use Rattle.area.specs.declared.fields.Frame.{Frame}
 use Rattle.area.specs.declared.fields.BarResponse.{BarResponse}
 use Rattle.area.specs.declared.state.State.{State}
 use Rattle.area.specs.declared.prepared.AxisMotion.{AxisMotion}

@@ -45,7 +45,7 @@ use Rattle.area.specs.Outcome.{refused_of}
 use Rattle.area.specs.Call.{run_of, call_under}
 use Rattle.area.specs.declared.state.State.{State}
 use Rattle.area.specs.declared.state.ScrollingToTarget.{ScrollingToTarget}
-use Rattle.area.specs.Fields.{Frame}
+use Rattle.area.specs.declared.fields.Frame.{Frame}
 use Rattle.area.specs.declared.fields.ScrollAnimation.{ScrollAnimation}
 use Rattle.area.specs.declared.fields.BarResponse.{BarResponse}
 use Rattle.area.specs.declared.prepared.AxisMotion.{AxisMotion}

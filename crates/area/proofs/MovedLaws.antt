@@ -31,7 +31,7 @@ use Rattle.area.specs.End.{ended_by, finished_of, axis_ended_of, end_of, is_pres
 use Rattle.area.specs.Steps.{begun_at, ended_at}
 use Rattle.area.specs.Moved.{word_on, is_other_than_zero, is_moved_by_words, is_some_pos2, is_drag_heeded, is_press_heeded, is_moved_in, is_moved, MovesAreNamed}
 use Rattle.area.specs.declared.prepared.AxisBefore.{AxisBefore}
-use Rattle.area.specs.Fields.{Frame}
+use Rattle.area.specs.declared.fields.Frame.{Frame}
 use Rattle.area.specs.declared.fields.BarResponse.{BarResponse}
 use Rattle.area.specs.declared.fields.ScrollAnimation.{ScrollAnimation}
 use Rattle.area.specs.declared.state.State.{State}

@@ -25,7 +25,7 @@ use Rattle.area.specs.Steps.{begun_at, ended_at, step_at, is_accepted}
 use Rattle.area.specs.Moved.{ended_on, extent_on}
 use Rattle.area.specs.Lists.{maximum_offset, IsInRange}
 use Rattle.area.specs.declared.prepared.AxisBefore.{AxisBefore}
-use Rattle.area.specs.Fields.{Frame}
+use Rattle.area.specs.declared.fields.Frame.{Frame}
 use Rattle.area.specs.declared.state.State.{State}
 use Rattle.area.specs.declared.prepared.AxisMotion.{AxisMotion}
 use Rattle.area.specs.declared.prepared.AxisSpace.{AxisSpace}

@@ -14,7 +14,7 @@ use Rattle.area.specs.Begin.{input_of, driven_from, begun_from, axis_begun_of}
 use Rattle.area.specs.Adjust as Adjust
 use Rattle.area.specs.WheelTurn.{wheel_physics_of, wheel_scroll_of, taken, untaken, unheard, turned_by, turned_of}
 use Rattle.area.specs.declared.prepared.AxisBefore.{AxisBefore}
-use Rattle.area.specs.Fields.{Frame}
+use Rattle.area.specs.declared.fields.Frame.{Frame}
 use Rattle.area.specs.declared.state.State.{State}
 use Rattle.area.specs.declared.prepared.AxisMotion.{AxisMotion}
 use Rattle.area.specs.declared.prepared.AxisSpace.{AxisSpace}

@@ -24,7 +24,7 @@ use Rattle.area.specs.AxisPhysics.{physics_of}
 use Rattle.area.specs.Frame.{number_no, pair_no, host_of, settings_of, frame_of}
 use Rattle.area.specs.Checks.{frame_refusal}
 use Rattle.area.specs.WheelTurn.{wheel_scroll_of, wheel_physics_of, taken, untaken, unheard, turned_by, turned_of, left_of, TurnHolds}
-use Rattle.area.specs.Fields.{Frame}
+use Rattle.area.specs.declared.fields.Frame.{Frame}
 use Rattle.area.specs.declared.prepared.AxisBefore.{AxisBefore}
 use Rattle.area.specs.declared.prepared.AxisMotion.{AxisMotion}
 use Rattle.area.specs.declared.prepared.AxisSpace.{AxisSpace}

@@ -14,7 +14,7 @@ use Rattle.numbers.specs.Shape.{factor_of}
 use Rattle.numbers.specs.declared.shape.Align.{Align}
 use Rattle.numbers.specs.declared.range.Rangef.{Rangef}
 use Rattle.area.specs.Pair.{num, flag}
-use Rattle.area.specs.Fields.{Frame}
+use Rattle.area.specs.declared.fields.Frame.{Frame}
 use Rattle.area.specs.declared.fields.ScrollAnimation.{ScrollAnimation}
 use Rattle.area.specs.declared.fields.ScrollTarget.{ScrollTarget}
 use Rattle.area.specs.declared.prepared.AxisMotion.{AxisMotion}

@@ -11,7 +11,7 @@ use Rattle.area.specs.Handle.{show_factor_of, track_of, handle_of, handle_rect_o
 use Rattle.area.specs.Press.{press_of}
 use Rattle.area.specs.declared.bar.Barred.{Barred}
 use Rattle.area.specs.declared.fields.BarResponse.{BarResponse}
-use Rattle.area.specs.Fields.{Frame}
+use Rattle.area.specs.declared.fields.Frame.{Frame}
 use Rattle.area.specs.declared.handle.BarSpace.{BarSpace}
 use Rattle.area.specs.declared.handle.Track.{Track}
 use Rattle.area.specs.declared.prepared.AxisMotion.{AxisMotion}

@@ -13,8 +13,8 @@ use Rattle.numbers.specs.declared.shape.Rect.{Rect}
 use Rattle.axis.specs.declared.physics.AxisPhysics.{AxisPhysics}
 use Rattle.axis.specs.declared.wheel.WheelSource.{WheelSource}
 use Rattle.area.specs.declared.fields.DragScroll.{DragScroll}
-use Rattle.area.specs.Fields.{Host}
-use Rattle.area.specs.Fields.{Frame}
+use Rattle.area.specs.declared.fields.Host.{Host}
+use Rattle.area.specs.declared.fields.Frame.{Frame}
 use Rattle.area.specs.declared.state.State.{State}
 use Rattle.area.specs.declared.prepared.AxisSpace.{AxisSpace}
 use Rattle.area.specs.declared.prepared.AxisMotion.{AxisMotion}

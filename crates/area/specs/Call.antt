@@ -8,7 +8,7 @@ use Rattle.area.specs.End.{end_of, is_press_blocked}
 use Rattle.area.specs.PutOut.{answer_of}
 use Rattle.area.specs.Outcome.{refused_of, is_answer_finite}
 use Rattle.area.specs.declared.state.State.{State}
-use Rattle.area.specs.Fields.{Frame}
+use Rattle.area.specs.declared.fields.Frame.{Frame}
 use Rattle.area.specs.Outcome.{Answer}
 
 unfoldable pub run_of : Table → State → Frame → Answer

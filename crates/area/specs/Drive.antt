@@ -10,7 +10,7 @@ use Rattle.axis.specs.Physics.{drag_of, is_rubber_banding}
 use Rattle.axis.specs.Step.{step_of}
 use Rattle.axis.specs.declared.physics.AxisPhysics.{AxisPhysics}
 use Rattle.axis.specs.declared.step.Stepped.{Stepped}
-use Rattle.area.specs.Fields.{Settings}
+use Rattle.area.specs.declared.fields.Settings.{Settings}
 use Rattle.area.specs.declared.state.State.{State}
 use Rattle.area.specs.declared.prepared.AxisMotion.{AxisMotion}
 use Rattle.area.specs.declared.prepared.AxisBefore.{AxisBefore}

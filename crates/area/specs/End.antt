@@ -11,7 +11,7 @@ use Rattle.area.specs.Stick.{stick_of}
 use Rattle.area.specs.Bar.{bar_of}
 use Rattle.area.specs.FinalClamp.{final_clamp_of}
 use Rattle.area.specs.declared.state.State.{State}
-use Rattle.area.specs.Fields.{Frame}
+use Rattle.area.specs.declared.fields.Frame.{Frame}
 use Rattle.area.specs.declared.prepared.AxisSpace.{AxisSpace}
 use Rattle.area.specs.declared.prepared.AxisMotion.{AxisMotion}
 use Rattle.area.specs.declared.prepared.AxisBefore.{AxisBefore}

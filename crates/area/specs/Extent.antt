@@ -7,7 +7,7 @@ use Rattle.numbers.specs.Scalar.{max_of, min_of}
 use Rattle.numbers.specs.Convert.{ceil_of}
 use Rattle.area.specs.Pair.{num, flag}
 use Rattle.area.specs.Geometry.{pick_of}
-use Rattle.area.specs.Fields.{Frame}
+use Rattle.area.specs.declared.fields.Frame.{Frame}
 use Rattle.area.specs.declared.prepared.AxisSpace.{AxisSpace}
 use Rattle.area.specs.declared.extent.AxisExtent.{AxisExtent}
 

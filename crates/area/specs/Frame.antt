@@ -16,7 +16,11 @@ use Rattle.area.specs.declared.fields.ScrollAnimation.{ScrollAnimation}
 use Rattle.area.specs.declared.fields.ScrollTarget.{ScrollTarget}
 use Rattle.area.specs.declared.fields.ScrollBarVisibility.{ScrollBarVisibility}
 use Rattle.area.specs.declared.fields.DragScroll.{DragScroll}
-use Rattle.area.specs.Fields.{Settings, Style, Host, Content, Frame}
+use Rattle.area.specs.declared.fields.Settings.{Settings}
+use Rattle.area.specs.declared.fields.Style.{Style}
+use Rattle.area.specs.declared.fields.Host.{Host}
+use Rattle.area.specs.declared.fields.Content.{Content}
+use Rattle.area.specs.declared.fields.Frame.{Frame}
 use Rattle.area.specs.Layout as At
 
 -- ---- a word, by its number from 1

@@ -11,8 +11,8 @@ use Rattle.numbers.specs.declared.shape.Rect.{Rect}
 use Rattle.area.specs.Pair.{num}
 use Rattle.numbers.specs.Shape.{along_of}
 use Rattle.area.specs.Geometry.{pick_of}
-use Rattle.area.specs.Fields.{Frame}
-use Rattle.area.specs.Fields.{Style}
+use Rattle.area.specs.declared.fields.Frame.{Frame}
+use Rattle.area.specs.declared.fields.Style.{Style}
 use Rattle.area.specs.declared.handle.BarSpace.{BarSpace}
 use Rattle.area.specs.declared.handle.Track.{Track}
 

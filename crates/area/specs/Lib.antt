@@ -4,7 +4,6 @@
 pub mod Pair
 pub mod State
 pub mod Layout
-pub mod Fields
 pub mod Frame
 pub mod Parts
 pub mod Clock

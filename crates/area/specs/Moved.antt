@@ -13,7 +13,7 @@ use Rattle.area.specs.Handle.{show_factor_of}
 use Rattle.area.specs.Bar.{no_response}
 use Rattle.area.specs.Steps.{begun_at, ended_at, step_at, is_accepted}
 use Rattle.area.specs.declared.state.State.{State}
-use Rattle.area.specs.Fields.{Frame}
+use Rattle.area.specs.declared.fields.Frame.{Frame}
 use Rattle.area.specs.declared.prepared.Prepared.{Prepared}
 use Rattle.area.specs.declared.extent.AxisExtent.{AxisExtent}
 use Rattle.area.specs.declared.end.AxisEnded.{AxisEnded}

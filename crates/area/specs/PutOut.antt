@@ -9,7 +9,7 @@ use Rattle.area.specs.Geometry.{pick_of}
 use Rattle.area.specs.Begin.{inner_rect_of, viewport_of}
 use Rattle.area.specs.End.{shrunk_rect_of}
 use Rattle.area.specs.declared.state.State.{State}
-use Rattle.area.specs.Fields.{Frame}
+use Rattle.area.specs.declared.fields.Frame.{Frame}
 use Rattle.area.specs.declared.prepared.Prepared.{Prepared}
 use Rattle.area.specs.declared.end.Ended.{Ended}
 use Rattle.area.specs.Outcome.{Outcome}

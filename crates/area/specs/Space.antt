@@ -5,8 +5,8 @@ use Rattle.numbers.specs.F32.{plus, minus, times}
 use Rattle.numbers.specs.Scalar.{max_of, min_of, flag_of}
 use Rattle.numbers.specs.declared.range.Rangef.{Rangef}
 use Rattle.numbers.specs.declared.shape.Rect.{Rect}
-use Rattle.area.specs.Fields.{Frame}
-use Rattle.area.specs.Fields.{Settings}
+use Rattle.area.specs.declared.fields.Frame.{Frame}
+use Rattle.area.specs.declared.fields.Settings.{Settings}
 use Rattle.area.specs.declared.prepared.AxisSpace.{AxisSpace}
 use Rattle.area.specs.Pair.{num, flag}
 use Rattle.numbers.specs.Range.{intersection_of}

@@ -18,7 +18,7 @@ use Rattle.area.specs.Pair.{num, flag}
 use Rattle.area.specs.State.{no_target}
 use Rattle.area.specs.Geometry.{pick_of, rect_contains_pointer}
 use Rattle.area.specs.AxisPhysics.{physics_of}
-use Rattle.area.specs.Fields.{Frame}
+use Rattle.area.specs.declared.fields.Frame.{Frame}
 use Rattle.area.specs.declared.prepared.AxisBefore.{AxisBefore}
 use Rattle.area.specs.declared.prepared.AxisMotion.{AxisMotion}
 use Rattle.area.specs.declared.prepared.AxisSpace.{AxisSpace}

@@ -4,7 +4,7 @@ ghost use Rattle.numbers.specs.Axis.{index_of};
 ghost use Rattle.area.specs.Adjust as Spec;
 
 use crate::fields::{ScrollAnimation, ScrollTarget};
-use crate::frame::Frame;
+use crate::frame::FrameView;
 use crate::prepared::{AxisMotion, AxisSpace};
 use crate::state::ScrollingToTarget;
 use numbers::{Align, Axis, Rangef, abs, lerp, min, remap, widen};
@@ -37,7 +37,7 @@ pub struct Adjusted {
 // Scrolls one axis as its content asks: not at all, at once, or by a target that later frames follow. An axis that is not enabled drops
 // what its content asks for.
 #[tactic(auto, unfolding(crate::specs::Adjust::adjusted_of, crate::specs::Adjust::adjusted_by))]
-pub fn adjust_axis(frame: &Frame, d: Axis, space: AxisSpace, motion: AxisMotion) -> Adjusted
+pub fn adjust_axis(frame: &FrameView, d: Axis, space: AxisSpace, motion: AxisMotion) -> Adjusted
     ensures { result ≡ Spec.adjusted_of frame.now (index_of d) space motion }
 {
     // Seen from the offset that `begin` left.
@@ -53,7 +53,7 @@ pub fn adjust_axis(frame: &Frame, d: Axis, space: AxisSpace, motion: AxisMotion)
 
 // A scroll delta points against the offset, so it is negated; a target adds to it, and its animation counts.
 #[tactic(auto, unfolding(crate::specs::Adjust::asked_at, crate::specs::Adjust::asked_of))]
-fn ask(frame: &Frame, d: Axis, space: AxisSpace, offset: f32) -> AskedDelta
+fn ask(frame: &FrameView, d: Axis, space: AxisSpace, offset: f32) -> AskedDelta
     ensures { result ≡ Spec.asked_at frame.now (index_of d) space offset }
 {
     let delta = -frame.scroll_delta(d);
@@ -71,7 +71,7 @@ fn ask(frame: &Frame, d: Axis, space: AxisSpace, offset: f32) -> AskedDelta
 
 // A target's range is in the ui's coordinates, as the clip's side is.
 #[tactic(auto, unfolding(crate::specs::Adjust::view_of))]
-fn view_of(frame: &Frame, d: Axis, space: AxisSpace) -> AxisView
+fn view_of(frame: &FrameView, d: Axis, space: AxisSpace) -> AxisView
     ensures { result ≡ Spec.view_of frame.now (index_of d) space }
 {
     AxisView {

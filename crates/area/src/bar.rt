@@ -4,7 +4,7 @@ ghost use Rattle.numbers.specs.Axis.{index_of, other_of};
 ghost use Rattle.area.specs.Bar as Spec;
 
 use crate::fields::BarResponse;
-use crate::frame::Frame;
+use crate::frame::FrameView;
 use crate::handle::{BarSpace, Track, handle_rect_of, show_factor_of, track_of};
 use crate::prepared::AxisMotion;
 use crate::press::{Grip, press_axis};
@@ -71,7 +71,7 @@ fn show_bar(
 // The bar of axis d.
 #[tactic(auto, unfolding(crate::specs::Bar::bar_of, crate::specs::Bar::turn_bar))]
 pub fn bar_axis(
-    frame: &Frame,
+    frame: &FrameView,
     d: Axis,
     space: BarSpace,
     show_scroll: bool,

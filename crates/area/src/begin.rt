@@ -8,7 +8,7 @@ use crate::axis_physics::physics_of;
 use crate::drive::{AxisDrive, AxisInput, before_of, open_motion};
 use crate::fields::DragScroll;
 use crate::follow::follow;
-use crate::frame::Frame;
+use crate::frame::FrameView;
 use crate::geometry::rect_contains_pointer;
 use crate::prepared::{AxisBefore, AxisBegun, AxisMotion, Prepared};
 use crate::space::{inner_rect, space_of};
@@ -18,7 +18,7 @@ use numbers::{Axis, Pos2, Rect};
 
 // Uses what the last frame left in the state: bounds, flags and the rectangle to take hold of.
 #[tactic(auto, unfolding(crate::specs::Begin::begin_of, crate::specs::Begin::prepared_of))]
-pub fn begin(frame: &Frame, state: State, table: &[u8]) -> Prepared
+pub fn begin(frame: &FrameView, state: State, table: &[u8]) -> Prepared
     ensures { result ≡ Spec.begin_of (table_of table.now) frame.now state }
 {
     let [x_shown, y_shown] = state.show_scroll;
@@ -58,7 +58,7 @@ pub fn begin(frame: &Frame, state: State, table: &[u8]) -> Prepared
 
 // What part of the content is seen, as the content is told: before this frame's drag or step.
 #[tactic(auto, unfolding(crate::specs::Begin::viewport_of))]
-pub fn viewport_of(frame: &Frame, state: State, prepared: Prepared) -> Rect
+pub fn viewport_of(frame: &FrameView, state: State, prepared: Prepared) -> Rect
     ensures { result ≡ Spec.viewport_of frame.now state prepared }
 {
     let x = open_motion(frame, state, Axis::X);
@@ -82,7 +82,7 @@ pub fn dt_of(stable_dt: f32) -> f32
 // A target moves its axis after the hand or the step has.
 #[tactic(auto, unfolding(crate::specs::Begin::begun_from, crate::specs::Begin::last_physics_of, crate::specs::Begin::input_of))]
 fn begin_axis(
-    frame: &Frame,
+    frame: &FrameView,
     d: Axis,
     before: AxisBefore,
     motion: AxisMotion,
@@ -123,7 +123,7 @@ fn begin_axis(
 
 // Whether content can be dragged at all; in the first frame there is no rectangle yet to take hold of.
 #[tactic(auto, unfolding(crate::specs::Begin::has_background_drag, crate::specs::Geometry::is_rect_stored))]
-fn has_background_drag(frame: &Frame, state: State) -> bool
+fn has_background_drag(frame: &FrameView, state: State) -> bool
     ensures { result ≡ Spec.has_background_drag frame.now state }
 {
     let [x_too_large, y_too_large] = state.content_is_too_large;
@@ -133,7 +133,7 @@ fn has_background_drag(frame: &Frame, state: State) -> bool
 
 // OnTouch asks whether there is a touch screen.
 #[tactic(auto, unfolding(crate::specs::Begin::drag_enabled))]
-fn drag_enabled(frame: &Frame) -> bool
+fn drag_enabled(frame: &FrameView) -> bool
     ensures { result ≡ Spec.drag_enabled frame.now.settings.drag frame.now.host.touch }
 {
     match frame.drag() {
@@ -145,7 +145,7 @@ fn drag_enabled(frame: &Frame) -> bool
 
 // Content past the edge does not spring back while fingers rest on the trackpad, with the pointer over the area.
 #[tactic(auto, unfolding(crate::specs::Begin::hold_overscroll))]
-fn hold_overscroll(frame: &Frame, inner_rect: Rect) -> bool
+fn hold_overscroll(frame: &FrameView, inner_rect: Rect) -> bool
     ensures { result ≡ Spec.hold_overscroll frame.now.host inner_rect }
 {
     fingers_on_trackpad(frame.source()) & rect_contains_pointer(frame, inner_rect)

@@ -8,7 +8,7 @@ ghost use Rattle.area.specs.Lists.{FrameSays};
 use crate::begin::begin;
 use crate::checks::check_before_7;
 use crate::end::{end, is_press_blocked};
-use crate::frame::Frame;
+use crate::frame::FrameView;
 use crate::outcome::Accepted;
 use crate::put_out::accepted_of;
 use crate::state::State;
@@ -38,7 +38,7 @@ pub fn frame_by(state: State, bytes: &[u8], table: &[u8]) -> Result<Accepted, Re
 // `begin`, then `end`; 7 goes before 8.
 // Stays: check 8 beside axis's put_out. An answer here goes with the state, and there with what was given.
 #[tactic(auto, unfolding(crate::specs::Call::run_of))]
-fn run(state: State, frame: &Frame, table: &[u8]) -> Result<Accepted, Refusal>
+fn run(state: State, frame: &FrameView, table: &[u8]) -> Result<Accepted, Refusal>
     ensures { answer_in state result ≡ Spec.run_of (table_of table.now) state frame.now }
 {
     let prepared = begin(frame, state, table);

@@ -6,7 +6,7 @@ ghost use Rattle.area.specs.Frame.{frame_of};
 ghost use Rattle.area.specs.Checks as Spec;
 
 use crate::clock::check_clock;
-use crate::frame::{FRAME, Frame};
+use crate::frame::{FRAME, FrameView};
 use crate::state::{ScrollingToTarget, State};
 use crate::sweep::sweep_words;
 use numbers::Finite;
@@ -14,17 +14,17 @@ use refusals::{Refusal, refuse};
 
 // The frame, unless one of 1 to 6 and 12 applies.
 #[tactic(auto, using(refusals::proofs::Refused::not_0), unfolding(crate::specs::Checks::refusal_before7, crate::specs::Clock::clock_refusal, crate::specs::Frame::frame_of, crate::specs::Frame::host_of))]
-pub fn check_before_7<'a>(bytes: &'a [u8], state: State) -> Result<Frame<'a>, Refusal>
+pub fn check_before_7<'a>(bytes: &'a [u8], state: State) -> Result<FrameView<'a>, Refusal>
     ensures refuses { number_in result ≡ Spec.refusal_before7 bytes.now state }
     ensures reads { IfOk result (λ frame. frame ≡ frame_of bytes.now) }
 {
-    let frame = Frame::new(check(bytes, state)?);
+    let frame = FrameView::new(check(bytes, state)?);
     check_clock(&frame, state)?;
     Ok(frame)
 }
 
 // The frame's bytes, unless one of 1 to 6 applies.
-// Stays: bytes and no Frame, here and in check_frame and check_run. A settling run writes the next time into a copy of them.
+// Stays: bytes and no FrameView, here and in check_frame and check_run. A settling run writes the next time into a copy of them.
 #[tactic(auto, using(refusals::proofs::Refused::not_0), unfolding(crate::specs::Checks::refusal_of))]
 pub fn check<'a>(bytes: &'a [u8], state: State) -> Result<&'a [u8; FRAME], Refusal>
     ensures refuses { number_in result ≡ Spec.refusal_of bytes.now state }

@@ -7,13 +7,13 @@ ghost use Rattle.area.specs.Frame.{time_words};
 ghost use Rattle.area.specs.Clock as Spec;
 ghost use Rattle.area.specs.Lists.{ResetSays};
 
-use crate::frame::Frame;
+use crate::frame::FrameView;
 use crate::state::State;
 use numbers::Ieee;
 use refusals::{Refusal, refuse};
 
 // Check 12.
-pub fn check_clock(frame: &Frame, state: State) -> Result<(), Refusal>
+pub fn check_clock(frame: &FrameView, state: State) -> Result<(), Refusal>
     ensures { number_in result ≡ Spec.refusal_at frame.now.host.time state }
 {
     refuse(frame.time() < state.remembered_time, Refusal::Clock)

@@ -4,7 +4,7 @@ ghost use Rattle.numbers.specs.Axis.{index_of};
 ghost use Rattle.numbers.specs.Table.{table_of};
 ghost use Rattle.area.specs.Drive as Spec;
 
-use crate::frame::Frame;
+use crate::frame::FrameView;
 use crate::prepared::{AxisBefore, AxisBegun, AxisMotion};
 use crate::state::State;
 use axis::AxisPhysics;
@@ -33,7 +33,7 @@ pub struct AxisDrive {
 
 // The motion of axis d, from where the host puts it.
 #[tactic(auto, unfolding(crate::specs::Drive::opened_of, crate::specs::Drive::given_offset_or))]
-pub fn open_motion(frame: &Frame, state: State, d: Axis) -> AxisMotion
+pub fn open_motion(frame: &FrameView, state: State, d: Axis) -> AxisMotion
     ensures { result ≡ Spec.opened_of frame.now.settings state (index_of d) }
 {
     let stored = along(state.offset, d);

@@ -8,7 +8,7 @@ use crate::bar::{Barred, bar_axis};
 use crate::drive::before_of;
 use crate::extent::{AxisExtent, extent_of};
 use crate::final_clamp::{FinalClamp, final_clamp_axis};
-use crate::frame::Frame;
+use crate::frame::FrameView;
 use crate::geometry::shows_bar;
 use crate::handle::BarSpace;
 use crate::prepared::{AxisBefore, AxisBegun, AxisSpace, Prepared};
@@ -52,7 +52,7 @@ pub struct Ended {
 }
 
 #[tactic(auto, unfolding(crate::specs::End::end_of))]
-pub fn end(frame: &Frame, state: State, prepared: Prepared) -> Ended
+pub fn end(frame: &FrameView, state: State, prepared: Prepared) -> Ended
     ensures { result ≡ Spec.end_of frame.now state prepared }
 {
     let x_extent = extent_of(frame, Axis::X, prepared.x_space);
@@ -98,7 +98,7 @@ pub fn end(frame: &Frame, state: State, prepared: Prepared) -> Ended
 // Stays: `before` beside frame and axis. It is a row of the state, and a struct of the three would be taken apart in each clause.
 #[tactic(auto, unfolding(crate::specs::End::axis_ended_of))]
 fn end_axis(
-    frame: &Frame,
+    frame: &FrameView,
     d: Axis,
     before: AxisBefore,
     space: AxisSpace,
@@ -125,7 +125,7 @@ fn end_axis(
 // Sticking, the bar, the last clamp.
 #[tactic(auto, unfolding(crate::specs::End::finished_of))]
 fn finish_axis(
-    frame: &Frame,
+    frame: &FrameView,
     d: Axis,
     before: AxisBefore,
     extents: Extents,

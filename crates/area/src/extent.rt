@@ -3,7 +3,7 @@ ghost use Rattle.std.specs.Prelude.{◌≡◌};
 ghost use Rattle.numbers.specs.Axis.{index_of};
 ghost use Rattle.area.specs.Extent as Spec;
 
-use crate::frame::Frame;
+use crate::frame::FrameView;
 use crate::prepared::AxisSpace;
 use numbers::{Axis, Rangef, ceil, max, min};
 
@@ -22,7 +22,7 @@ pub struct AxisExtent {
 // Starts from the size of begin's inner rectangle, rounded again, not from begin's inner size. A floating bar lies over the content, so
 // the content may also fill the bar's space before it counts as too large.
 #[tactic(auto, unfolding(crate::specs::Extent::extent_of, crate::specs::Extent::extent_by, crate::specs::Geometry::pick_of))]
-pub fn extent_of(frame: &Frame, d: Axis, space: AxisSpace) -> AxisExtent
+pub fn extent_of(frame: &FrameView, d: Axis, space: AxisSpace) -> AxisExtent
     ensures { result ≡ Spec.extent_of frame.now (index_of d) space }
 {
     let enabled = frame.direction_enabled(d);

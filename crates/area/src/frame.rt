@@ -7,7 +7,7 @@ ghost use Rattle.area.specs.Bar.{no_response};
 ghost use Rattle.area.specs.Drive.{no_given_offset};
 ghost use Rattle.area.specs.Adjust.{request_at};
 ghost use Rattle.area.specs.Frame.{Whole, frame_of};
-ghost use Rattle.area.specs.Fields as Fields;
+ghost use Rattle.area.specs.declared.fields.Frame.{Frame};
 
 use crate::decode::{FromWords, kind_along, kind_at, words_along};
 use crate::fields::{BarResponse, DragScroll, ScrollAnimation, ScrollBarVisibility, ScrollTarget};
@@ -20,24 +20,24 @@ use std::marker::Model;
 pub const FRAME: usize = 416;
 
 #[derive(Drop)]
-pub struct Frame<'a> {
+pub struct FrameView<'a> {
     // Stays: a slice, whose length the invariant has. An array's reference would be copied first in each reader, as in Walk::word.
     bytes: &'a [u8],
 }
 
-impl<'a> Model for Frame<'a> {
-    ghost Value = { Fields.Frame };
+impl<'a> Model for FrameView<'a> {
+    ghost Value = { Frame };
 
     ghost view = { λ frame. frame_of frame.bytes.now };
 
     ghost invariant = { λ frame. Whole frame.bytes.now };
 }
 
-impl<'a> Frame<'a> {
+impl<'a> FrameView<'a> {
     pub fn new(bytes: &'a [u8; FRAME]) -> Self
         ensures { result ≡ frame_of bytes.now }
     {
-        Frame { bytes }
+        FrameView { bytes }
     }
 
     // Stays: d beside the frame, as the Rust indexes `max_size[d]`. Definitions take both, and a struct would be taken apart in each clause.

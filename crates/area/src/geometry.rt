@@ -5,7 +5,7 @@ ghost use Rattle.area.specs.Geometry as Spec;
 ghost use Rattle.area.specs.Space as Space;
 
 use crate::fields::ScrollBarVisibility;
-use crate::frame::Frame;
+use crate::frame::FrameView;
 use numbers::{Axis, Rangef, Rect};
 
 // A rectangle's side along axis d.
@@ -21,7 +21,7 @@ pub fn side_of(rect: Rect, d: Axis) -> Rangef
 
 // Whether a bar is to show, where `needed` says whether the content asks for it.
 #[tactic(auto, unfolding(crate::specs::Geometry::shows_bar))]
-pub fn shows_bar(frame: &Frame, needed: bool, enabled: bool) -> bool
+pub fn shows_bar(frame: &FrameView, needed: bool, enabled: bool) -> bool
     ensures { result ≡ Spec.shows_bar frame.now.settings.scroll_bar_visibility needed enabled }
 {
     match frame.scroll_bar_visibility() {
@@ -33,7 +33,7 @@ pub fn shows_bar(frame: &Frame, needed: bool, enabled: bool) -> bool
 
 // A rectangle holds the pointer if its intersection with the clip does.
 #[tactic(auto, unfolding(crate::specs::Geometry::rect_contains_pointer))]
-pub fn rect_contains_pointer(frame: &Frame, rect: Rect) -> bool
+pub fn rect_contains_pointer(frame: &FrameView, rect: Rect) -> bool
     ensures { result ≡ Spec.rect_contains_pointer frame.now.host.clip frame.now.host.pointer rect }
 {
     match frame.pointer() {

@@ -3,7 +3,7 @@ ghost use Rattle.std.specs.Prelude.{◌≡◌};
 ghost use Rattle.numbers.specs.Axis.{index_of, other_of};
 ghost use Rattle.area.specs.Handle as Spec;
 
-use crate::frame::Frame;
+use crate::frame::FrameView;
 use crate::geometry::side_of;
 use numbers::{Axis, Rangef, Rect, lerp, max, remap_clamp};
 
@@ -57,7 +57,7 @@ fn max_cross_of(outer_max: f32, clip_max: f32, outer_margin: f32) -> f32
 // A floating bar grows as the pointer comes near; another one fills what was set aside for it.
 #[tactic(auto, unfolding(crate::specs::Handle::cross_of))]
 fn cross_of(
-    frame: &Frame,
+    frame: &FrameView,
     show_factor: f32,
     hover_factor: f32,
     max_cross: f32,
@@ -81,7 +81,7 @@ fn cross_of(
 
 // The bar's side along the axis: the inner rectangle's, unless the host gave one.
 #[tactic(auto, unfolding(crate::specs::Handle::bar_range_of, crate::specs::Space::side_of))]
-fn bar_range_of(frame: &Frame, inner: Rangef, d: Axis) -> Rangef
+fn bar_range_of(frame: &FrameView, inner: Rangef, d: Axis) -> Rangef
     ensures { result ≡ Spec.bar_range_of frame.now.settings.scroll_bar_rect inner (index_of d) }
 {
     match frame.scroll_bar_rect() {
@@ -92,7 +92,7 @@ fn bar_range_of(frame: &Frame, inner: Rangef, d: Axis) -> Rangef
 
 // The bar of axis d; along the other axis it has its width.
 #[tactic(auto, unfolding(crate::specs::Handle::track_of, crate::specs::Space::side_of))]
-pub fn track_of(frame: &Frame, d: Axis, space: BarSpace, show_factor: f32) -> Track
+pub fn track_of(frame: &FrameView, d: Axis, space: BarSpace, show_factor: f32) -> Track
     ensures { result ≡ Spec.track_of frame.now (index_of d) (index_of (other_of d)) space show_factor }
 {
     let outer_margin = show_factor * frame.bar_outer_margin();

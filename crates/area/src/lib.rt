@@ -39,8 +39,11 @@ pub use call::{frame_by, frame_call};
 pub use checks::{check_before_7, check_frame};
 pub use clock::{put_time, reset, reset_lent};
 pub use decode::{FromWords, OfWord, kind_at, word_at};
-pub use fields::{BarResponse, DragScroll, ScrollAnimation, ScrollBarVisibility, ScrollTarget};
-pub use frame::{FRAME, Frame};
+pub use fields::{
+    BarResponse, Content, DragScroll, Frame, Host, ScrollAnimation, ScrollBarVisibility,
+    ScrollTarget, Settings, Style,
+};
+pub use frame::{FRAME, FrameView};
 pub use lent::{frame_lent, frame_lent_by};
 pub use outcome::{Accepted, Outputs, state_after};
 pub use replays::{Form, call_by, replay};

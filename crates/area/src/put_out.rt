@@ -7,7 +7,7 @@ ghost use Rattle.area.specs.PutOut as Spec;
 
 use crate::begin::viewport_of;
 use crate::end::{Ended, shrunk_rect_of};
-use crate::frame::Frame;
+use crate::frame::FrameView;
 use crate::outcome::{Accepted, Outputs};
 use crate::prepared::Prepared;
 use crate::space::inner_rect;
@@ -15,7 +15,7 @@ use crate::state::State;
 use numbers::Axis;
 
 #[tactic(auto, unfolding(crate::specs::PutOut::answer_of, crate::specs::PutOut::outcome_of, crate::specs::Begin::inner_rect_of))]
-pub fn accepted_of(frame: &Frame, state: State, prepared: Prepared, ended: Ended) -> Accepted
+pub fn accepted_of(frame: &FrameView, state: State, prepared: Prepared, ended: Ended) -> Accepted
     ensures { accepted_in result ≡ Spec.answer_of frame.now state prepared ended }
 {
     Accepted {
@@ -34,7 +34,7 @@ pub fn accepted_of(frame: &Frame, state: State, prepared: Prepared, ended: Ended
 
 // What the next frame begins from.
 #[tactic(auto, unfolding(crate::specs::PutOut::next_state))]
-fn next_state(frame: &Frame, ended: Ended) -> State
+fn next_state(frame: &FrameView, ended: Ended) -> State
     ensures { result ≡ Spec.next_state frame.now ended }
 {
     State {
@@ -61,7 +61,7 @@ fn next_state(frame: &Frame, ended: Ended) -> State
 
 // A delta that was consumed is cleared, so that no parent uses it; both where the only direction took both.
 #[tactic(auto, unfolding(crate::specs::PutOut::wheel_delta_left))]
-fn wheel_delta_left(frame: &Frame, ended: Ended) -> [f32; 2]
+fn wheel_delta_left(frame: &FrameView, ended: Ended) -> [f32; 2]
     ensures { result ≡ Spec.wheel_delta_left frame.now ended }
 {
     let both = ended.wheel.always_scroll_enabled_direction & (ended.x.consumed | ended.y.consumed);
@@ -73,7 +73,7 @@ fn wheel_delta_left(frame: &Frame, ended: Ended) -> [f32; 2]
 
 // The scroll delta of an enabled axis is taken.
 #[tactic(auto, unfolding(crate::specs::PutOut::scroll_delta_left))]
-fn scroll_delta_left(frame: &Frame) -> [f32; 2]
+fn scroll_delta_left(frame: &FrameView) -> [f32; 2]
     ensures { result ≡ Spec.scroll_delta_left frame.now }
 {
     [

@@ -8,7 +8,7 @@ ghost use Rattle.area.specs.Lists.{SettleSays};
 use crate::call::frame_by;
 use crate::checks::check;
 use crate::clock::put_time;
-use crate::frame::{FRAME, Frame};
+use crate::frame::{FRAME, FrameView};
 use crate::moved::is_moved_by_words;
 use crate::state::State;
 use numbers::Axis;
@@ -138,6 +138,6 @@ pub fn settle_frames(
 fn advance(frame: &mut [u8; FRAME], increment: f64)
     ensures { frame.new ≡ Spec.advanced increment frame.old }
 {
-    let next = Frame::new(frame).time() + increment;
+    let next = FrameView::new(frame).time() + increment;
     put_time(frame, 51, next);
 }

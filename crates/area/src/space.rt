@@ -3,14 +3,14 @@ ghost use Rattle.std.specs.Prelude.{◌≡◌};
 ghost use Rattle.numbers.specs.Axis.{index_of, other_of};
 ghost use Rattle.area.specs.Space as Spec;
 
-use crate::frame::Frame;
+use crate::frame::FrameView;
 use crate::geometry::shows_bar;
 use crate::prepared::AxisSpace;
 use numbers::{Axis, Rangef, Rect, flag_as_number};
 
 // What the bar of the other axis leaves of the side that is available to axis d, and what of that the content is clipped to.
 #[tactic(auto, unfolding(crate::specs::Space::space_of, crate::specs::Space::space_by))]
-pub fn space_of(frame: &Frame, was_shown: bool, d: Axis) -> AxisSpace
+pub fn space_of(frame: &FrameView, was_shown: bool, d: Axis) -> AxisSpace
     ensures { result ≡ Spec.space_of frame.now was_shown (index_of d) (index_of (other_of d)) }
 {
     let direction_enabled = frame.direction_enabled(d);
@@ -42,7 +42,7 @@ pub fn inner_rect(x: AxisSpace, y: AxisSpace) -> Rect
 // What the bar of axis e takes, as far as the last frame tells whether it shows: a floating bar its width at once, a solid one
 // little by little as it opens.
 #[tactic(auto, unfolding(crate::specs::Space::current_bar_use_of, crate::specs::Space::bar_use_of))]
-fn current_bar_use(frame: &Frame, was_shown: bool, e: Axis) -> f32
+fn current_bar_use(frame: &FrameView, was_shown: bool, e: Axis) -> f32
     ensures { result ≡ Spec.current_bar_use_of frame.now was_shown (index_of e) }
 {
     if frame.floating() {

@@ -7,7 +7,7 @@ ghost use Rattle.area.specs.WheelTurn as Spec;
 use crate::axis_physics::physics_of;
 use crate::begin::dt_of;
 use crate::extent::AxisExtent;
-use crate::frame::Frame;
+use crate::frame::FrameView;
 use crate::geometry::rect_contains_pointer;
 use crate::prepared::{AxisBefore, AxisMotion, AxisSpace};
 use axis::{AxisPhysics, WheelScroll};
@@ -32,7 +32,7 @@ pub struct Turned {
 
 // The pointer is over the outer rectangle, or drags the background.
 #[tactic(auto, unfolding(crate::specs::WheelTurn::heard_of))]
-pub fn hear_wheel(frame: &Frame, outer_rect: Rect, is_dragging_background: bool) -> WheelHeard
+pub fn hear_wheel(frame: &FrameView, outer_rect: Rect, is_dragging_background: bool) -> WheelHeard
     ensures { result ≡ Spec.heard_of frame.now outer_rect is_dragging_background }
 {
     // Stays: x and y by name, here and in wheel_scroll. They are the Rust's one test and one sum, and a fold over the axes is no plainer.
@@ -47,7 +47,7 @@ pub fn hear_wheel(frame: &Frame, outer_rect: Rect, is_dragging_background: bool)
 // Turns one axis, if it is enabled and the wheel is heard; rubber_banding is begin's.
 #[tactic(auto, unfolding(crate::specs::WheelTurn::turned_of, crate::specs::WheelTurn::wheel_physics_of))]
 pub fn turn_axis(
-    frame: &Frame,
+    frame: &FrameView,
     d: Axis,
     before: AxisBefore,
     space: AxisSpace,
@@ -88,7 +88,7 @@ pub fn turn_axis(
 
 // A wheel's delta points against the offset. With one direction only, either way of turning moves it, without shift.
 #[tactic(auto, unfolding(crate::specs::WheelTurn::wheel_scroll_of, crate::specs::Geometry::pick_of))]
-fn wheel_scroll(frame: &Frame, d: Axis, always_scroll_enabled_direction: bool) -> WheelScroll
+fn wheel_scroll(frame: &FrameView, d: Axis, always_scroll_enabled_direction: bool) -> WheelScroll
     ensures { result ≡ Spec.wheel_scroll_of frame.now (index_of d) always_scroll_enabled_direction }
 {
     let both = frame.smooth_scroll_delta(Axis::X) + frame.smooth_scroll_delta(Axis::Y);
