@@ -1,5 +1,5 @@
 -- The steps of one frame are the frame call; what an accepted and what a refused frame tells. Assumes nothing.
-use Rattle.std.specs.Prelude.{◌≡◌, ℕ, Bool, true, false, cond, not, ◌&&◌, eqb, ◌==◌, ◌≢◌, List, [], ◌∷◌, length}
+use Rattle.std.specs.Prelude.{◌≡◌, ℕ, Bool, true, false, cond, not, ◌&&◌, eqb, ◌==◌, ◌≢◌, List, length}
 use mathlib.Core.Path.{refl, sym, ap, ◌∙◌}
 use mathlib.Core.Bool.{true≢false, false≢true}
 use native.Mathlib.Omega.{arith}
@@ -198,18 +198,16 @@ remembered_finite t h =
     and_right (is_pair_finite t.offset && is_pair_finite t.max_offset && are_targets_finite t.offset_target && is_pair_finite t.vel
     && are_presses_finite t.scroll_start_offset_from_top_left && is_rect_finite t.interact_rect) (is_finite t.remembered_time) h
 
-both_finite : (v : List Float) → is_pair_finite v ≡ true → (is_finite (num v 0) ≡ true) × (is_finite (num v 1) ≡ true)
+pair_finite : (v : List Float) → is_pair_finite v ≡ true → (is_finite (num v 0) ≡ true) × (is_finite (num v 1) ≡ true)
 unfolding is_pair_finite
-both_finite [] h = absurd (false≢true h)
-both_finite (x ∷ []) h = absurd (false≢true h)
-both_finite (x ∷ y ∷ rest) h = (and_left (is_finite x) (is_finite y) h, and_right (is_finite x) (is_finite y) h)
+pair_finite v h = (and_left (is_finite (num v 0)) (is_finite (num v 1)) h, and_right (is_finite (num v 0)) (is_finite (num v 1)) h)
 
 ended_finite : (f : Frame) (e : Ended) → is_state_finite (next_state f e) ≡ true → IsFiniteOn e 0 × IsFiniteOn e 1
 unfolding next_state
 ended_finite f e h =
     let both = offsets_finite (next_state f e) h in
-    let offset = both_finite (next_state f e).offset both.0 in
-    let maximum = both_finite (next_state f e).max_offset both.1 in
+    let offset = pair_finite (next_state f e).offset both.0 in
+    let maximum = pair_finite (next_state f e).max_offset both.1 in
     (record { offset = offset.0; maximum = maximum.0 }, record { offset = offset.1; maximum = maximum.1 })
 
 outputs_finite : (table : Table) (S : State) (bytes : List ℕ) → is_answer_finite (outputs_at table S bytes) ≡ true

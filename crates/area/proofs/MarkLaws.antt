@@ -1,9 +1,9 @@
 -- What a word's bits tell at once of the numbers that it shows. Assumes nothing.
-use Rattle.std.specs.Prelude.{◌≡◌, ℕ, ◌%◌, ◌^◌, ◌<◌, Bool, true, false, not, ◌&&◌, ◌==◌, eqb, leb}
+use Rattle.std.specs.Prelude.{◌≡◌, ℕ, ◌%◌, ◌^◌, ◌<◌, ◌≤◌, Bool, true, false, not, ◌&&◌, ◌==◌, eqb, leb}
 use mathlib.Core.Path.{refl, sym, ap, ◌∙◌}
 use native.Mathlib.Omega.{arith}
 use lib.Ieee.{binary32, of_bits, to_bits, lt, le, ne, eq, div}
-use borrow.Author.Tests.{eqb-false, leb-true, le-ltb, ne_eqb}
+use borrow.Author.Tests.{leb-true, le-ltb}
 use Rattle.numbers.specs.F32 as F32
 use Rattle.numbers.specs.Scalar.{is_finite}
 use Rattle.numbers.proofs.NegativeLaws.{word_below_zero}
@@ -13,8 +13,7 @@ use Rattle.area.specs.Layout.{size_or_infinity, points_per_second, size}
 use Rattle.area.specs.Checks.{infinity, shows2, shows3, shows4, shows5}
 use Rattle.refusals.specs.Refusal.{number_of}
 use Rattle.refusals.specs.declared.Refusal.{Refusal}
-use Rattle.area.specs.declared.marks.shown.Shown.{Shown}
-use Rattle.area.specs.Marks.{mark_of, shown_of}
+use Rattle.area.specs.Marks.{shown_of}
 use Rattle.numbers.proofs.TestLaws.{or_false, and_true}
 use Rattle.area.proofs.InfinityLaws.{word_not_infinity}
 
@@ -61,5 +60,19 @@ some_number Refusal.NoDrawer = refl
 some_number Refusal.NoEntry = refl
 some_number Refusal.DrawerFull = refl
 
-pub some_mark : (m : Shown) → mark_of m == 0 ≡ false
-some_mark m = ne_eqb (mark_of m) 0 (λ z. eqb-false (number_of m.refusal) 0 (some_number m.refusal) (omega (arith, z)))
+pub at_most_15 : (r : Refusal) → number_of r ≤ 15
+at_most_15 Refusal.FrameLength = omega arith
+at_most_15 Refusal.FlagOrKind = omega arith
+at_most_15 Refusal.Exceeds = omega arith
+at_most_15 Refusal.Outside = omega arith
+at_most_15 Refusal.Style = omega arith
+at_most_15 Refusal.State = omega arith
+at_most_15 Refusal.PressBlocked = omega arith
+at_most_15 Refusal.Outcome = omega arith
+at_most_15 Refusal.Run = omega arith
+at_most_15 Refusal.TableLength = omega arith
+at_most_15 Refusal.TableOrder = omega arith
+at_most_15 Refusal.Clock = omega arith
+at_most_15 Refusal.NoDrawer = omega arith
+at_most_15 Refusal.NoEntry = omega arith
+at_most_15 Refusal.DrawerFull = omega arith

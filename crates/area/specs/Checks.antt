@@ -2,19 +2,20 @@
 use Rattle.std.specs.Prelude.{Option}
 use Rattle.numbers.specs.declared.shape.Rect.{Rect}
 use Rattle.area.specs.declared.state.ScrollingToTarget.{ScrollingToTarget}
-use Rattle.std.specs.Prelude.{ℕ, zero, suc, ◌-◌, Bool, false, cond, not, ◌&&◌, ◌||◌, List, length, ◌==◌, from_bits, nat_lt}
+use Rattle.std.specs.Prelude.{ℕ, zero, suc, ◌-◌, Bool, false, cond, not, ◌&&◌, ◌||◌, None, List, length, slice_index_or, ◌==◌, from_bits, nat_lt}
 use Rattle.std.specs.Prelude.{Float}
 use Rattle.std.specs.Float.{binary64}
 use Rattle.std.specs.Float.Ieee.{lt, le, ne}
 use Rattle.numbers.specs.F32.{over, one}
 use Rattle.numbers.specs.F32 as F32
 use Rattle.numbers.specs.Scalar.{is_finite}
-use Rattle.numbers.specs.Finite.{option_finite, pair_finite, rect_finite}
+use Rattle.numbers.specs.Finite.{option_finite, rect_finite}
 use Rattle.axis.specs.Limits.{exceeds_limit, is_decay_time_outside}
 use Rattle.area.specs.declared.state.State.{State}
 use Rattle.area.specs.State.{no_time}
 use Rattle.area.specs.Layout as At
 use Rattle.area.specs.Layout.{Row, row_no}
+use Rattle.area.specs.Pair.{num}
 use Rattle.area.specs.Frame.{word_no, number_no, time_no}
 use Rattle.area.specs.Clock.{clock_refusal}
 
@@ -87,16 +88,16 @@ frame_refusal s =
 
 -- 6: "A number in the given state is not finite"; an absent option holds none
 unfoldable pub is_pair_finite : List Float → Bool
-is_pair_finite v = pair_finite is_finite v
+is_pair_finite v = is_finite (num v 0) && is_finite (num v 1)
 
 abbrev pub is_span_finite : ScrollingToTarget → Bool
 is_span_finite t = is_finite t.start && is_finite t.end && is_finite t.target_offset
 
 unfoldable pub are_targets_finite : List (Option ScrollingToTarget) → Bool
-are_targets_finite t = pair_finite (option_finite is_span_finite) t
+are_targets_finite t = option_finite is_span_finite (slice_index_or t 0 None) && option_finite is_span_finite (slice_index_or t 1 None)
 
 unfoldable pub are_presses_finite : List (Option Float) → Bool
-are_presses_finite p = pair_finite (option_finite is_finite) p
+are_presses_finite p = option_finite is_finite (slice_index_or p 0 None) && option_finite is_finite (slice_index_or p 1 None)
 
 unfoldable pub is_rect_finite : Option Rect → Bool
 is_rect_finite r = option_finite rect_finite r

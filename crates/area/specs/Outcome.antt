@@ -1,5 +1,5 @@
 -- The outputs besides the state, a refusal's outputs, and check 8.
-use Rattle.std.specs.Prelude.{Option, Some, None}
+use Rattle.std.specs.Prelude.{Option, Some, None, slice_index_or}
 use Rattle.std.specs.Prelude.{ℕ, Bool, false, ◌&&◌, [], ◌∷◌}
 use Rattle.std.specs.Prelude.{List, Result, Ok, Err, Float}
 use Rattle.refusals.specs.Refusal.{number_of}
@@ -7,7 +7,6 @@ use Rattle.refusals.specs.declared.Refusal.{Refusal}
 use Rattle.area.specs.declared.outcome.Outputs.{Outputs}
 use Rattle.area.specs.declared.outcome.Accepted.{Accepted}
 use Rattle.numbers.specs.F32.{zero}
-use Rattle.numbers.specs.Finite.{option_finite, pair_finite, rect_finite}
 use Rattle.numbers.specs.declared.shape.Rect.{Rect}
 use Rattle.area.specs.Checks.{is_pair_finite, is_rect_finite, is_state_finite}
 use Rattle.area.specs.declared.state.State.{State}
@@ -55,7 +54,8 @@ is_outcome_finite o =
     is_pair_finite o.content_size
     && is_rect_finite (Some o.inner_rect)
     && is_rect_finite (Some o.viewport)
-    && pair_finite (option_finite rect_finite) o.handles
+    && is_rect_finite (slice_index_or o.handles 0 no_handle)
+    && is_rect_finite (slice_index_or o.handles 1 no_handle)
     && is_pair_finite o.wheel_delta_left
     && is_pair_finite o.scroll_delta_left
 

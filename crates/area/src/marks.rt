@@ -14,7 +14,7 @@ mod shown;
 use axis::{is_decay_time_outside, word_exceeds_limit};
 use numbers::{Ieee, is_word_negative};
 use refusals::{Refusal, refuse};
-pub use shown::Shown;
+pub use shown::{Kept, Shown};
 
 // ---- a kind of word, by its row
 

@@ -56,11 +56,16 @@ fn via_lent(state: State, bytes: &[u8], table: &[u8]) -> Result<Accepted, Refusa
     })
 }
 
-// One frame by a table, in the form given.
-pub fn call_by(state: State, form: Form, bytes: &[u8], table: &[u8]) -> Result<Accepted, Refusal>
+// One frame by a table, in the form given, or by its number: by value where that is 0 and lent where it is any other.
+pub fn call_by<F: Into<Form>>(
+    state: State,
+    form: F,
+    bytes: &[u8],
+    table: &[u8],
+) -> Result<Accepted, Refusal>
     ensures { FrameSays (table_of table.now) state bytes.now (answer_in state result) }
 {
-    match form {
+    match form.into() {
         Form::ByValue => frame_by(state, bytes, table),
         Form::Lent => via_lent(state, bytes, table),
     }

@@ -1,5 +1,5 @@
 // What the walk keeps: the lowest refusal that a word shows, with the first word that shows it.
-ghost use Rattle.std.specs.Prelude.{◌<◌, ◌≤◌};
+ghost use Rattle.std.specs.Prelude.{◌<◌, ◌≤◌, ◌%◌};
 
 use refusals::Refusal;
 
@@ -12,27 +12,73 @@ pub struct Shown {
     ghost in_frame: { (0 < word) × (word ≤ 104) },
 }
 
-impl Shown {
-    ghost use Rattle.std.specs.Prelude.{◌≡◌, nat_lt};
+/// What is kept of what the words show, or nothing.
+// Stays: one number, the mark or 0. An Option of a Shown takes three times as long over bad words, or a third more compared in place.
+#[derive(Clone, Copy)]
+pub struct Kept {
+    mark: u32,
+    ghost in_frame: { (mark < 2048) × (0 < mark → (128 < mark) × (0 < mark % 128) × (mark % 128 ≤ 104)) },
+}
+
+impl Kept {
+    ghost use Rattle.std.specs.Prelude.{◌≡◌};
+    ghost use Rattle.refusals.specs.Refusal.{number_of};
     ghost use Rattle.area.specs.Marks as Spec;
 
-    /// What is kept of this and of what was kept before. Few words show anything: what comes of one stays out of the way of the others.
-    #[tactic(auto, unfolding(crate::specs::Marks::lower_mark))]
-    #[cold]
-    #[inline(never)]
-    pub fn beside(self, kept: Option<Shown>) -> Shown
-        ensures { Spec.mark_of result ≡ Spec.lower_mark (Spec.mark_of self) (Spec.mark_in kept) }
+    pub fn none() -> Kept
+        ensures { result.mark ≡ 0 }
     {
-        match kept {
-            Some(other) if !self.comes_before(other) => other,
-            _ => self,
-        }
+        Kept { mark: 0 }
     }
 
-    // The lower number comes first and, of equal numbers, the earlier word.
-    fn comes_before(self, other: Shown) -> bool
-        ensures { result ≡ nat_lt (Spec.mark_of self) (Spec.mark_of other) }
+    /// With what one more word shows: the lower number stays and, of equal numbers, the earlier word.
+    #[tactic(auto, using(crate::proofs::MarkLaws::at_most_15), unfolding(crate::specs::Marks::lower_mark))]
+    pub fn with(self, shown: Shown) -> Kept
+        ensures { result.mark ≡ Spec.lower_mark (Spec.mark_of shown) self.mark }
     {
-        (self.refusal, self.word) < (other.refusal, other.word)
+        let own = u32::from(shown.refusal) * 128 + shown.word;
+        if self.mark == 0 {
+            return Kept { mark: own };
+        }
+        if own < self.mark {
+            return Kept { mark: own };
+        }
+        self
+    }
+
+    pub fn shown(self) -> Option<Shown>
+        ensures { Spec.mark_in result ≡ self.mark }
+    {
+        if self.mark == 0 {
+            return None;
+        }
+        let refusal = Kept::refusal_of(self.mark / 128);
+        Some(Shown {
+            refusal,
+            word: self.mark % 128,
+        })
+    }
+
+    fn refusal_of(number: u32) -> Refusal
+        requires { (0 < number) × (number ≤ 15) }
+        ensures { number_of result ≡ number }
+    {
+        match number {
+            1 => Refusal::FrameLength,
+            2 => Refusal::FlagOrKind,
+            3 => Refusal::Exceeds,
+            4 => Refusal::Outside,
+            5 => Refusal::Style,
+            6 => Refusal::State,
+            7 => Refusal::PressBlocked,
+            8 => Refusal::Outcome,
+            9 => Refusal::Run,
+            10 => Refusal::TableLength,
+            11 => Refusal::TableOrder,
+            12 => Refusal::Clock,
+            13 => Refusal::NoDrawer,
+            14 => Refusal::NoEntry,
+            _ => Refusal::DrawerFull,
+        }
     }
 }

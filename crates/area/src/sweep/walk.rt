@@ -8,7 +8,7 @@ ghost use Rattle.area.specs.Sweep.{numbers_of};
 use super::Swept;
 use super::field::Field;
 use crate::frame::FRAME;
-use crate::marks::{Shown, Word};
+use crate::marks::{Kept, Shown, Word};
 use refusals::Refusal;
 use std::marker::Model;
 
@@ -18,15 +18,15 @@ pub struct Walk<'a> {
     frame: &'a [u8; FRAME],
     last: u32,
     count: u32,
-    kept: Option<Shown>,
+    kept: Kept,
 }
 
 impl<'a> Model for Walk<'a> {
-    ghost use Rattle.area.specs.Marks.{Sweeping, mark_in};
+    ghost use Rattle.area.specs.Marks.{Sweeping};
 
     ghost Value = { Sweeping };
 
-    ghost view = { λ w. record { bytes = w.frame.now; last = w.last; walk = record { count = w.count; mark = mark_in w.kept } } };
+    ghost view = { λ w. record { bytes = w.frame.now; last = w.last; walk = record { count = w.count; mark = w.kept.mark } } };
 }
 
 impl<'a> Walk<'a> {
@@ -37,7 +37,7 @@ impl<'a> Walk<'a> {
             frame,
             last,
             count: 0,
-            kept: None,
+            kept: Kept::none(),
         }
     }
 
@@ -64,8 +64,8 @@ impl<'a> Walk<'a> {
         if is_after {
             return self;
         }
-        let shown = Shown { refusal, word: n }.beside(self.kept);
-        self.kept = Some(shown);
+        let kept = self.kept.with(Shown { refusal, word: n });
+        self.kept = kept;
         self
     }
 
@@ -96,7 +96,7 @@ impl<'a> Walk<'a> {
     {
         Swept {
             count: self.count,
-            kept: self.kept.map_or(Ok(()), |shown| Err(shown.refusal)),
+            kept: self.kept.shown().map_or(Ok(()), |shown| Err(shown.refusal)),
         }
     }
 
@@ -105,7 +105,7 @@ impl<'a> Walk<'a> {
         ensures answers { unwrap_or result 0 ≡ self.entry.walk.mark % 128 }
         ensures is_word { IfSome result (λ word. 0 < word) }
     {
-        self.kept.map(|shown| shown.word)
+        self.kept.shown().map(|shown| shown.word)
     }
 }
 

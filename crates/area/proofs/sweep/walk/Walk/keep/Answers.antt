@@ -8,4 +8,4 @@ pub returns-then-is_after : goal.returns-then-is_after
 returns-then-is_after c = rw (← c.self.view_is) (keeping_after _ _ _ c.if-is_after.true)
 
 pub returns : goal.returns
-returns c = rw (c.in-Err.is, ← c.self.view_is) (keeping_refusal _ _ _ _ c.if-is_after.false c.beside-shown.ensures)
+returns c = rw (c.in-Err.is, ← c.self.view_is) (keeping_refusal _ _ _ _ c.if-is_after.false c.with-kept.ensures)
