@@ -27,3 +27,7 @@ rest_of offset vel stuck =
 
 unfoldable pub line_of : ℕ → List Float → List Float → List Bool → List ℕ
 line_of refusal offset vel stuck = decimal_of refusal ++ rest_of offset vel stuck
+
+-- with two digits for the refusal, whatever it is
+unfoldable pub wide_line_of : ℕ → List Float → List Float → List Bool → List ℕ
+wide_line_of refusal offset vel stuck = digit_of (refusal / 10) ∷ digit_of refusal ∷ rest_of offset vel stuck

@@ -13,7 +13,7 @@ use std::alloc::Global;
 use std::io::{LineWriter, Read, Write};
 use std::rt::Files;
 use std::{env, io};
-use table_file::read_table;
+use table_file::{ROOM, read_table};
 
 // The listing under a table; no bytes stand for T.
 // Stays: the table as bytes, as in Answers: an Option would be turned into them at once.
@@ -43,8 +43,27 @@ fn list_by<R: Read + Drop, W: Write>(
     }
 }
 
+// Standard error alone tells of a file that cannot be read, and the exit status is 0 all the same.
+fn list_by_file<F: Files + Eprint, R: Read + Drop, W: Write>(
+    rt: &F,
+    path: &str,
+    input: R,
+    alloc: Global,
+    out: &mut W,
+) -> io::Result<()> {
+    let mut room = [0; ROOM];
+    match read_table(rt, path, &mut room) {
+        Ok(count) => list_by(input, alloc, &room[..count], out),
+        Err(error) => {
+            // A standard error that is closed changes nothing.
+            let _ = rt.eprintln(format_args!("{path}: {error}"));
+            Ok(())
+        }
+    }
+}
+
 // More than one argument is a mistake: no listing is better than one under a table that was not meant. Standard error
-// alone tells of it, and of a file that cannot be read, and the exit status is 0 all the same.
+// alone tells of it, and the exit status is 0 all the same.
 fn main(rt: HostRuntime) -> io::Result<()> {
     let alloc = rt.alloc();
     let mut out = LineWriter::new(alloc, io::writer(&rt))?;
@@ -53,15 +72,8 @@ fn main(rt: HostRuntime) -> io::Result<()> {
     if arguments.len() > 2 {
         return eprintln!(rt; "usage: frames [TABLE]");
     }
-    let Some(path) = arguments.nth(1) else {
-        return list_frames(rt.reader(), alloc, b"", &mut out);
-    };
-    match read_table(&rt, alloc, path.as_str()) {
-        Ok(table) => list_by(rt.reader(), alloc, &table, &mut out),
-        Err(error) => {
-            // A standard error that is closed changes nothing.
-            let _ = eprintln!(rt; "{path}: {error}");
-            Ok(())
-        }
+    match arguments.nth(1) {
+        Some(path) => list_by_file(&rt, path.as_str(), rt.reader(), alloc, &mut out),
+        None => list_frames(rt.reader(), alloc, b"", &mut out),
     }
 }

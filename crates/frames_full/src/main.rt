@@ -3,9 +3,15 @@
 // The first call is by value, the second lent, and so on by turns.
 #![tactic(auto)]
 
+ghost use Rattle.std.specs.Prelude.{◌≡◌};
+ghost use Rattle.words.specs.Words.{bytes_of};
+ghost use Rattle.area.specs.Outcome.{lent_outcome_in};
+ghost use Rattle.records.specs.Record.{out_words};
+
+use area::{Outputs, State};
 use listing::{Answer, Answers, ByteWords};
 use records::{OUTPUTS, STATE};
-use refusals::number;
+use refusals::{Refusal, number};
 use std::io::{LineWriter, Write};
 use std::{fmt, io};
 
@@ -18,14 +24,23 @@ impl fmt::Display for Line {
         let refusal = number(&outputs);
         let mut state_bytes = [0; STATE];
         records::put_state(&mut state_bytes, state);
-        // A refused frame puts nothing out: zeros.
-        let mut output_bytes = [0; OUTPUTS];
-        if let Ok(outputs) = outputs {
-            records::put_outcome(&mut output_bytes, outputs);
-        }
+        let output_bytes = put_out(state, outputs);
         let (state, outputs) = (ByteWords(&state_bytes), ByteWords(&output_bytes));
         writeln!(f, "{refusal}{state}{outputs}")
     }
+}
+
+// A refused frame puts nothing out: zeros.
+#[tactic(auto, using(crate::proofs::OutputLaws::of_refused))]
+fn put_out(state: State, outputs: Result<Outputs, Refusal>) -> [u8; OUTPUTS]
+    ensures { result ≡ bytes_of (out_words (lent_outcome_in state outputs)) }
+{
+    let mut bytes = [0; OUTPUTS];
+    let Ok(outputs) = outputs else {
+        return bytes;
+    };
+    records::put_outcome(&mut bytes, outputs);
+    bytes
 }
 
 fn main(rt: HostRuntime) -> io::Result<()> {

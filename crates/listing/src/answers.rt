@@ -43,7 +43,7 @@ impl<R: Read + Drop> Iterator for Answers<'_, R> {
     fn next(&mut self) -> Option<io::Result<Answer>> {
         match self.frames.next()? {
             Ok(frame) => {
-                let answer = self.turns.frame(&frame.bytes, self.table);
+                let answer = self.turns.frame(frame.bytes(), self.table);
                 Some(Ok(Answer {
                     state: self.turns.state,
                     outputs: answer.map(|accepted| accepted.outputs),

@@ -1,5 +1,5 @@
 // Words of 32 bits in a line, each as eight digits.
-ghost use Rattle.std.specs.Prelude.{Some, [], ◌∷◌};
+ghost use Rattle.std.specs.Prelude.{◌≡◌, Some, [], ◌∷◌};
 ghost use Rattle.listing.specs.Digits as Spec;
 
 use numbers::Ieee;
@@ -19,6 +19,39 @@ impl fmt::Display for Word {
     }
 }
 
+impl Word {
+    /// The eight digits at once, for a line that is written in one piece.
+    #[tactic(auto, unfolding(crate::specs::Digits::digits_of_word))]
+    pub fn digits(self) -> [u8; 8]
+        ensures { result ≡ Spec.digits_of_word self.0 }
+    {
+        let Word(word) = self;
+        [
+            glyph(word / 268435456),
+            glyph(word / 16777216),
+            glyph(word / 1048576),
+            glyph(word / 65536),
+            glyph(word / 4096),
+            glyph(word / 256),
+            glyph(word / 16),
+            glyph(word),
+        ]
+    }
+}
+
+// The last hexadecimal digit of a word, in lower case.
+#[tactic(auto, unfolding(crate::specs::Digits::glyph_of))]
+fn glyph(word: u32) -> u8
+    ensures { result ≡ Spec.glyph_of word }
+{
+    let digit = (word % 16) as u8;
+    let is_decimal = digit < 10;
+    if is_decimal {
+        return 48 + digit;
+    }
+    87 + digit
+}
+
 /// The bits of a number.
 #[derive(Clone, Copy, Debug)]
 pub struct Bits(pub f32);
@@ -28,6 +61,14 @@ impl fmt::Display for Bits {
 
     fn fmt<W: fmt::Write>(&self, f: &mut fmt::Formatter<W>) -> fmt::Result {
         write!(f, "{}", Word(self.0.bits()))
+    }
+}
+
+impl Bits {
+    pub fn digits(self) -> [u8; 8]
+        ensures { result ≡ Spec.digits_of self.0 }
+    {
+        Word(self.0.bits()).digits()
     }
 }
 
@@ -42,6 +83,15 @@ impl fmt::Display for Flag {
     fn fmt<W: fmt::Write>(&self, f: &mut fmt::Formatter<W>) -> fmt::Result {
         let digit = u32::from(self.0);
         write!(f, "{digit}")
+    }
+}
+
+impl Flag {
+    #[tactic(auto, unfolding(crate::specs::Digits::flag_of))]
+    pub fn digit(self) -> u8
+        ensures { result ≡ Spec.flag_of self.0 }
+    {
+        if self.0 { 49 } else { 48 }
     }
 }
 

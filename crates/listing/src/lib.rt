@@ -1,12 +1,14 @@
 // What the programs' runs and listings have in common.
 #![tactic(auto)]
 
+mod answered;
 mod answers;
 mod digits;
 mod place;
 mod step;
 mod turns;
 
+pub use answered::{Answered, drag, wheel};
 pub use answers::{Answer, Answers};
 use area::FRAME;
 pub use digits::{Bits, ByteWords, Flag, Word, Words};

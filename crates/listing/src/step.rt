@@ -1,7 +1,9 @@
 // A stored step of one axis, and what it answers.
-ghost use Rattle.std.specs.Prelude.{◌≡◌, Some};
+ghost use Rattle.std.specs.Prelude.{◌≡◌, false, Some};
 ghost use Rattle.numbers.specs.Table.{table_of};
+ghost use Rattle.refusals.specs.Refusal.{answered};
 ghost use Rattle.axis.specs.Call.{step_call_under};
+ghost use Rattle.axis.specs.Step.{stepped};
 ghost use Rattle.area.specs.Frame.{number_no, flag_no};
 ghost use Rattle.area.specs.Parts.{axis_no};
 ghost use Rattle.listing.specs.Step as Spec;
@@ -9,7 +11,7 @@ ghost use Rattle.listing.specs.Step as Spec;
 use crate::digits::{Bits, ByteWords, Flag};
 use area::FromWords;
 use axis::{AxisPhysics, Stepped};
-use refusals::number;
+use refusals::{Refusal, number};
 use std::fmt;
 
 /// A step's line: the words of the call, after "=" the refusal or 0, offset and velocity as words, and whether it moves as a digit.
@@ -33,7 +35,7 @@ impl Step {
         let axis = AxisPhysics::at(&call, 1);
         let (offset, vel) = (f32::at(&call, 7), f32::at(&call, 8));
         let (dt, hold) = (f32::at(&call, 9), bool::at(&call, 10));
-        let answer = axis::call::step_by(axis, offset, vel, dt, hold, table);
+        let answer = stepped_by(axis, offset, vel, dt, hold, table);
         let given = Stepped {
             offset,
             vel,
@@ -45,6 +47,25 @@ impl Step {
             stepped: answer.unwrap_or(given),
         }
     }
+}
+
+// A step by T is a call of its own.
+// Stays: offset and vel apart, as in AxisPhysics::step.
+#[tactic(auto, using(crate::proofs::TableLaws::of_none))]
+fn stepped_by(
+    axis: AxisPhysics,
+    offset: f32,
+    vel: f32,
+    dt: f32,
+    hold: bool,
+    table: &[u8],
+) -> Result<Stepped, Refusal>
+    ensures { answered (stepped offset vel false) result ≡ step_call_under (table_of table.now) axis offset vel dt hold }
+{
+    if table.is_empty() {
+        return axis::call::step(axis, offset, vel, dt, hold);
+    }
+    axis::call::step_by(axis, offset, vel, dt, hold, table)
 }
 
 impl fmt::Display for Step {

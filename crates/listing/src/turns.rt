@@ -7,7 +7,7 @@ ghost use Rattle.area.specs.Replay.{other_than};
 ghost use Rattle.area.specs.State as Spec;
 ghost use Rattle.area.specs.declared.replays.Form.TheVariants.{ByValue};
 
-use area::{Accepted, Form, State, call_by, state_after};
+use area::{Accepted, Form, State, call_by, frame_call, state_after};
 use refusals::Refusal;
 
 /// The first frame is by value, the second lent, and so on by turns.
@@ -36,9 +36,20 @@ impl Turns {
         ensures kept { self.new.state ≡ (answer_in self.old.state result).state }
         ensures turned { self.new.form ≡ other_than self.old.form }
     {
-        let answer = call_by(self.state, self.form, bytes, table);
+        let answer = call(self.state, self.form, bytes, table);
         self.state = state_after(self.state, &answer);
         self.form = self.form.other();
         answer
     }
+}
+
+// A frame by T and by value is the frame call itself.
+#[tactic(auto, using(crate::proofs::TableLaws::of_none))]
+fn call(state: State, form: Form, bytes: &[u8], table: &[u8]) -> Result<Accepted, Refusal>
+    ensures { FrameSays (table_of table.now) state bytes.now (answer_in state result) }
+{
+    if form == Form::ByValue && table.is_empty() {
+        return frame_call(state, bytes);
+    }
+    call_by(state, form, bytes, table)
 }

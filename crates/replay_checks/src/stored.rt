@@ -5,12 +5,12 @@ use refusals::{Refusal, number};
 use std::alloc::Global;
 use std::fmt;
 use std::io::Read;
-use streams::{NoRecord, Record, read_array, read_padded};
+use streams::{NoRecord, Part, Record, read_array};
 
-#[derive(Drop)]
+#[derive(Clone, Copy)]
 pub struct Stored {
     // None where its length is past the bytes.
-    frame: Option<Vec<u8>>,
+    frame: Option<Part<FRAME_ROOM>>,
     state: [u8; STATE],
 }
 
@@ -21,11 +21,17 @@ pub struct Judged {
     bad_word: u32,
 }
 
+// Read at once.
 impl Record for Stored {
-    fn read<R: Read>(input: &mut R, alloc: Global) -> Result<Self, NoRecord> {
+    fn read<R: Read>(input: &mut R, _alloc: Global) -> Result<Self, NoRecord> {
+        let record: [u8; 584] = read_array(input)?;
+        let mut room = [0; FRAME_ROOM];
+        room.copy_from_slice(&record[4..4 + FRAME_ROOM]);
+        let mut state = [0; STATE];
+        state.copy_from_slice(&record[4 + FRAME_ROOM..]);
         Ok(Stored {
-            frame: read_padded(input, alloc, FRAME_ROOM)?,
-            state: read_array(input)?,
+            frame: Part::first(room, words::word_in(&record, 0) as usize),
+            state,
         })
     }
 }
@@ -33,15 +39,16 @@ impl Record for Stored {
 impl Stored {
     // A length past the bytes is a frame of the wrong length too.
     pub fn judged(&self) -> Judged {
-        let Some(frame) = &self.frame else {
+        let Some(frame) = self.frame else {
             return Judged {
                 refusal: u32::from(Refusal::FrameLength),
                 bad_word: 0,
             };
         };
+        let state = records::state_of(&self.state);
         Judged {
-            refusal: number(&area::check_before_7(frame, records::state_of(&self.state))),
-            bad_word: area::bad_word(frame).unwrap_or(0),
+            refusal: number(&area::check_before_7(frame.bytes(), state)),
+            bad_word: area::bad_word(frame.bytes()).unwrap_or(0),
         }
     }
 }

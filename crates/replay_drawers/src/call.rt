@@ -2,17 +2,14 @@
 use records::STATE;
 use std::alloc::Global;
 use std::io::Read;
-use streams::{NoRecord, Record, read_array, read_counted, read_word};
+use streams::{NoRecord, Record, read_array, read_word};
 
-// 25 records.
-const ROOM: usize = 4200;
-
-#[derive(Drop)]
+#[derive(Clone, Copy)]
 pub enum Call {
-    // A buffer that is given: a word n, at most the room there is, and n bytes.
-    Given(Vec<u8>),
-    // Four bytes that are put into it: a word, where the first goes, and these.
-    Put { start: usize, bytes: [u8; 4] },
+    // A buffer that is given. The panel reads what follows into its room: a word n, at most the room there is, and n bytes.
+    Given,
+    // Four bytes that are put into it: a word, where the first goes. The panel reads these, where they have a place.
+    Put { start: usize },
     Lay,
     // An id, low word first, and a state's record.
     Save { id: u64, state: [u8; STATE] },
@@ -21,14 +18,13 @@ pub enum Call {
 }
 
 impl Record for Call {
-    fn read<R: Read>(input: &mut R, alloc: Global) -> Result<Self, NoRecord> {
+    fn read<R: Read>(input: &mut R, _alloc: Global) -> Result<Self, NoRecord> {
         let kind = read_word(input)?;
         match kind {
-            1 => Ok(Call::Given(read_counted(input, alloc, ROOM)?)),
+            1 => Ok(Call::Given),
             2 => {
                 Ok(Call::Put {
                     start: read_word(input)? as usize,
-                    bytes: read_array(input)?,
                 })
             }
             3 => Ok(Call::Lay),

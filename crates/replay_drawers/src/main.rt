@@ -13,16 +13,22 @@ use call::Call;
 use panel::Panel;
 use std::io;
 use std::io::{LineWriter, Write};
-use streams::Records;
+use streams::{NoRecord, Records};
 
 fn main(rt: HostRuntime) -> io::Result<()> {
     let mut out = LineWriter::new(rt.alloc(), io::writer(&rt))?;
-    let mut panel = Panel::new(rt.alloc());
-    for call in Records::<_, Call>::new(rt.reader(), rt.alloc()) {
-        let Some(line) = panel.replay(call?) else {
+    let mut panel = Panel::default();
+    let mut calls = Records::<_, Call>::new(rt.reader(), rt.alloc());
+    // A proved loop has to end, and nothing says that the input does: it has more turns than any run takes.
+    for _ in 0..u64::MAX {
+        let Some(call) = calls.next() else {
             break;
         };
-        writeln!(out, "{line}")?;
+        match panel.replay(call?, calls.input()) {
+            Ok(line) => writeln!(out, "{line}")?,
+            Err(NoRecord::Over) => break,
+            Err(NoRecord::Failed(error)) => return Err(error),
+        }
     }
     Ok(())
 }

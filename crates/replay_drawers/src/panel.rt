@@ -1,59 +1,76 @@
 // The buffer that is kept from call to call.
+ghost use Rattle.std.specs.Prelude.{◌≤◌};
+ghost use Rattle.replay_drawers.specs.declared.panel.TheConstants.{ROOM};
+
 use crate::call::Call;
 use crate::line::{Line, mark_of};
 use records::STATE;
 use refusals::{Refusal, number};
-use std::alloc::Global;
+use std::io::Read;
+use streams::{NoRecord, read_array, read_counted};
+
+// 25 records.
+const ROOM: usize = 4200;
+
+// How many bytes of the room are the buffer's.
+#[derive(Clone, Copy)]
+struct Used {
+    count: usize,
+    ghost within: { count ≤ ROOM },
+}
 
 #[derive(Drop)]
 pub struct Panel {
-    buffer: Vec<u8>,
+    // Begins with the buffer.
+    room: [u8; ROOM],
+    // Stays: a type of its own. Of a panel that held the bound itself no part could be lent to change.
+    used: Used,
+}
+
+impl Default for Panel {
+    fn default() -> Self {
+        Panel {
+            room: [0; ROOM],
+            used: Used { count: 0 },
+        }
+    }
 }
 
 impl Panel {
-    pub fn new(alloc: Global) -> Self {
-        Panel {
-            buffer: Vec::new(alloc),
-        }
-    }
-
-    // None for bytes that are put past the buffer's end.
-    pub fn replay(&mut self, call: Call) -> Option<Line> {
-        match call {
-            Call::Given(bytes) => {
-                self.buffer = bytes;
-                Some(self.line("given", &Ok(())))
+    // A call whose bytes are cut short, or go past the buffer's end, is none.
+    pub fn replay<R: Read>(&mut self, call: Call, input: &mut R) -> Result<Line, NoRecord> {
+        let buffer = &mut self.room[..self.used.count];
+        let line = match call {
+            Call::Given => {
+                let count = read_counted(input, &mut self.room)?;
+                self.used = Used { count };
+                self.line("given", &Ok(()))
             }
-            Call::Put { start, bytes } => self.put(start, bytes),
+            Call::Put { start } => {
+                put(buffer, start, input)?;
+                self.line("put", &Ok(()))
+            }
             Call::Lay => {
-                let answer = host::strakobud_drawer_lay(&mut self.buffer);
-                Some(self.line("lay", &answer))
+                let answer = host::strakobud_drawer_lay(buffer);
+                self.line("lay", &answer)
             }
             Call::Save { id, state } => {
-                let answer = host::strakobud_drawer_save(&mut self.buffer, id, &state);
-                Some(self.line("save", &answer))
+                let answer = host::strakobud_drawer_save(buffer, id, &state);
+                self.line("save", &answer)
             }
-            Call::Load { id } => Some(self.load(id)),
+            Call::Load { id } => self.load(id),
             Call::Forget { id } => {
-                let answer = host::strakobud_drawer_forget(&mut self.buffer, id);
-                Some(self.line("forget", &answer))
+                let answer = host::strakobud_drawer_forget(buffer, id);
+                self.line("forget", &answer)
             }
-        }
-    }
-
-    fn put(&mut self, start: usize, bytes: [u8; 4]) -> Option<Line> {
-        let end = start.checked_add(4)?;
-        self.buffer
-            .as_mut_slice()
-            .get_mut(start..end)?
-            .copy_from_slice(&bytes);
-        Some(self.line("put", &Ok(())))
+        };
+        Ok(line)
     }
 
     fn load(&self, id: u64) -> Line {
         // No load writes these bytes, so that one that refuses is seen to leave them.
         let mut state = [170; STATE];
-        let answer = host::strakobud_drawer_load(&self.buffer, id, &mut state);
+        let answer = host::strakobud_drawer_load(self.buffer(), id, &mut state);
         Line {
             state: Some(mark_of(&state)),
             ..self.line("load", &answer)
@@ -64,8 +81,21 @@ impl Panel {
         Line {
             name,
             refusal: number(answer),
-            buffer: mark_of(&self.buffer),
+            buffer: mark_of(self.buffer()),
             state: None,
         }
     }
+
+    fn buffer(&self) -> &[u8] {
+        &self.room[..self.used.count]
+    }
+}
+
+// Past the buffer's end none are read: the input may have no more, and stay open.
+fn put<R: Read>(buffer: &mut [u8], start: usize, input: &mut R) -> Result<(), NoRecord> {
+    let end = start.checked_add(4).ok_or(NoRecord::Over)?;
+    let place = buffer.get_mut(start..end).ok_or(NoRecord::Over)?;
+    let bytes: [u8; 4] = read_array(input)?;
+    place.copy_from_slice(&bytes);
+    Ok(())
 }

@@ -11,7 +11,7 @@ use listing::Words;
 use std::alloc::Global;
 use std::io;
 use std::io::{LineWriter, Read, Write};
-use streams::{NoRecord, Record, Records, read_word, read_words};
+use streams::{NoRecord, Record, Records, read_array};
 
 #[derive(Clone, Copy)]
 struct Stored {
@@ -21,9 +21,10 @@ struct Stored {
 
 impl Record for Stored {
     fn read<R: Read>(input: &mut R, _alloc: Global) -> Result<Self, NoRecord> {
+        let record: [u8; 36] = read_array(input)?;
         Ok(Stored {
-            call: Call::from(read_word(input)?),
-            operands: read_words(input)?,
+            call: Call::from(words::word_in(&record, 0)),
+            operands: [1, 2, 3, 4, 5, 6, 7, 8].map(|i| words::word(&record, i)),
         })
     }
 }

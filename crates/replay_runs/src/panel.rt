@@ -1,12 +1,17 @@
 // What a panel keeps from call to call.
-use crate::call::{By, Call, Run};
+use crate::call::{By, Call, Run, read_frame, read_run};
 use crate::line::Line;
+use listing::TABLE_ROOM;
 use numbers::TABLE;
 use records::{OUTPUTS, STATE};
 use refusals::number;
+use std::io::Read;
+use streams::{NoRecord, read_counted};
 
 #[derive(Drop)]
 pub struct Panel {
+    // For the bytes of a load.
+    room: [u8; TABLE_ROOM],
     table: [u8; TABLE],
     kept: [u8; STATE],
 }
@@ -14,6 +19,7 @@ pub struct Panel {
 impl Default for Panel {
     fn default() -> Self {
         Panel {
+            room: [0; TABLE_ROOM],
             table: [0; TABLE],
             kept: [0; STATE],
         }
@@ -21,58 +27,62 @@ impl Default for Panel {
 }
 
 impl Panel {
-    pub fn replay(&mut self, call: Call) -> Line {
+    pub fn replay<R: Read>(&mut self, call: Call, input: &mut R) -> Result<Line, NoRecord> {
         match call {
-            Call::Load(bytes) => {
-                Line::Load {
-                    count: bytes.len(),
-                    refusal: number(&host::strakobud_table_load(&bytes, &mut self.table)),
-                }
-            }
-            Call::Run(run) => self.settle(run),
+            Call::Load => self.load(input),
+            Call::Run(by) => self.settle(by, input),
             Call::Fresh => {
                 host::strakobud_fresh(&mut self.kept);
-                Line::Fresh(self.kept)
+                Ok(Line::Fresh(self.kept))
             }
-            Call::Frame(frame) => self.frame(&frame),
+            Call::Frame => self.frame(input),
             Call::Reset => {
                 host::strakobud_reset(&mut self.kept);
-                Line::Reset(self.kept)
+                Ok(Line::Reset(self.kept))
             }
             Call::Given(record) => {
                 self.kept = record;
-                Line::Given(self.kept)
+                Ok(Line::Given(self.kept))
             }
         }
     }
 
-    fn frame(&mut self, frame: &[u8]) -> Line {
-        let mut outputs = [0; OUTPUTS];
-        let answer = host::strakobud_frame(&mut self.kept, frame, &mut outputs);
-        Line::Frame {
+    fn load<R: Read>(&mut self, input: &mut R) -> Result<Line, NoRecord> {
+        let count = read_counted(input, &mut self.room)?;
+        let answer = host::strakobud_table_load(&self.room[..count], &mut self.table);
+        Ok(Line::Load {
+            count,
             refusal: number(&answer),
-            record: self.kept,
-        }
+        })
     }
 
-    fn settle(&self, run: Run) -> Line {
+    fn frame<R: Read>(&mut self, input: &mut R) -> Result<Line, NoRecord> {
+        let frame = read_frame(input)?;
+        let mut outputs = [0; OUTPUTS];
+        let answer = host::strakobud_frame(&mut self.kept, frame.bytes(), &mut outputs);
+        Ok(Line::Frame {
+            refusal: number(&answer),
+            record: self.kept,
+        })
+    }
+
+    fn settle<R: Read>(&self, by: By, input: &mut R) -> Result<Line, NoRecord> {
         let Run {
-            by,
             frame,
             mut state,
             run,
             mut used,
-        } = run;
+        } = read_run(input)?;
         let answer = match by {
-            By::T => host::strakobud_settle(&mut state, &frame, &run, &mut used),
+            By::T => host::strakobud_settle(&mut state, frame.bytes(), &run, &mut used),
             By::Table => {
-                host::strakobud_settle_by(&mut state, &frame, &self.table, &run, &mut used)
+                host::strakobud_settle_by(&mut state, frame.bytes(), &self.table, &run, &mut used)
             }
         };
-        Line::Run {
+        Ok(Line::Run {
             refusal: number(&answer),
             used,
             record: state,
-        }
+        })
     }
 }

@@ -6,18 +6,30 @@
 
 mod call;
 mod line;
+mod loaded;
 mod run;
 
 use call::Call;
 use run::Run;
 use std::io;
 use std::io::{LineWriter, Write};
-use streams::Records;
+use streams::{NoRecord, Records};
 
-// Stays: alike in replay_runs but for its types, and nearly in others. One for all, which was proved, has more lines than it saves.
+// Stays: alike in replay_runs and replay_drawers but for its types. One for all would need a trait, which only they would have.
 fn main(rt: HostRuntime) -> io::Result<()> {
     let mut out = LineWriter::new(rt.alloc(), io::writer(&rt))?;
     let mut run = Run::default();
     let mut calls = Records::<_, Call>::new(rt.reader(), rt.alloc());
-    calls.try_for_each(|call| writeln!(out, "{}", run.replay(call?)))
+    // A proved loop has to end, and nothing says that the input does: it has more turns than any run takes.
+    for _ in 0..u64::MAX {
+        let Some(call) = calls.next() else {
+            break;
+        };
+        match run.replay(call?, calls.input()) {
+            Ok(line) => writeln!(out, "{line}")?,
+            Err(NoRecord::Over) => break,
+            Err(NoRecord::Failed(error)) => return Err(error),
+        }
+    }
+    Ok(())
 }

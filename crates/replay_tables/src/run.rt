@@ -1,23 +1,25 @@
 // What a call finds from those before it.
 use crate::call::Call;
 use crate::line::Line;
+use crate::loaded::Loaded;
 use listing::{Place, Step, Turns};
-use numbers::{Ieee, check_table};
+use numbers::Ieee;
 use refusals::number;
+use std::io::Read;
+use streams::NoRecord;
 
 #[derive(Default, Drop)]
 pub struct Run {
     turns: Turns,
-    // That of the last load; none where T serves.
-    table: Option<Vec<u8>>,
+    loaded: Loaded,
 }
 
 impl Run {
-    pub fn replay(&mut self, call: Call) -> Line {
-        // No bytes stand for T.
-        let table = self.table.as_deref().unwrap_or(b"");
-        match call {
-            Call::Load(table) => self.load(table),
+    // A load that is cut short, or longer than its room, is none.
+    pub fn replay<R: Read>(&mut self, call: Call, input: &mut R) -> Result<Line, NoRecord> {
+        let table = self.loaded.bytes();
+        let line = match call {
+            Call::Load => self.load(input)?,
             Call::Exp(x) => {
                 Line::Exp {
                     x,
@@ -36,16 +38,15 @@ impl Run {
                 self.turns.state = area::reset(self.turns.state);
                 Line::Reset(Place::from(self.turns.state))
             }
-        }
+        };
+        Ok(line)
     }
 
-    fn load(&mut self, table: Vec<u8>) -> Line {
-        let count = table.len();
-        let loaded = check_table(&table);
-        self.table = loaded.is_ok().then_some(table);
-        Line::Load {
+    fn load<R: Read>(&mut self, input: &mut R) -> Result<Line, NoRecord> {
+        let (count, loaded) = self.loaded.load(input)?;
+        Ok(Line::Load {
             count,
             refusal: number(&loaded),
-        }
+        })
     }
 }

@@ -9,9 +9,7 @@ mod read;
 mod records;
 
 pub use part::Part;
-pub use read::{
-    NoRecord, read_array, read_bytes, read_counted, read_padded, read_word, read_words,
-};
+pub use read::{NoRecord, read_array, read_counted, read_padded, read_word, read_words};
 pub use records::{Record, Records};
 use std::io;
 use std::io::Read;
@@ -44,9 +42,34 @@ mod tests {
     fn parts_end_with_the_shorter_one(rt: HostRuntime) -> Result<(), Fail> {
         let mut lengths = Vec::new(rt.alloc());
         for part in Records::<_, Part<4>>::new(b"0123456789".as_slice(), rt.alloc()) {
-            lengths.push(part?.bytes.len())?;
+            lengths.push(part?.bytes().len())?;
         }
         assert_eq!(rt; lengths.as_slice(), [4, 4, 2].as_slice());
+        Ok(())
+    }
+
+    // Two bytes, the end, and four bytes more, as a terminal gives them.
+    #[derive(Drop)]
+    struct Terminal(u8);
+
+    impl Read for Terminal {
+        fn read(&mut self, buffer: &mut [u8]) -> io::Result<usize> {
+            self.0 += 1;
+            let count = match self.0 {
+                1 => 2,
+                2 => 0,
+                _ => 4,
+            };
+            Ok(count.min(buffer.len()))
+        }
+    }
+
+    #[test]
+    fn nothing_is_read_after_the_shorter_one(rt: HostRuntime) -> Result<(), Fail> {
+        let mut parts = Records::<_, Part<4>>::new(Terminal(0), rt.alloc());
+        let shorter = parts.next().ok_or("a part")??;
+        assert_eq!(rt; shorter.bytes().len(), 2);
+        assert!(rt; parts.next().is_none());
         Ok(())
     }
 
@@ -61,14 +84,15 @@ mod tests {
 
     #[test]
     fn counted_bytes(rt: HostRuntime) -> Result<(), Fail> {
-        let stored = b"\x02\0\0\0ab\x03\0\0\0abc";
-        let mut input = stored.as_slice();
-        let Ok(bytes) = read_counted(&mut input, rt.alloc(), 2) else {
+        let mut input = b"\x02\0\0\0ab\x03\0\0\0abc".as_slice();
+        let mut room = [0; 2];
+        let Ok(count) = read_counted(&mut input, &mut room) else {
             return Err(Fail::from("two bytes"));
         };
-        assert_eq!(rt; bytes.as_slice(), b"ab".as_slice());
+        assert_eq!(rt; count, 2);
+        assert_eq!(rt; room, *b"ab");
         assert!(rt;
-            read_counted(&mut input, rt.alloc(), 2).is_err(),
+            read_counted(&mut input, &mut room).is_err(),
             "three are too many"
         );
         Ok(())
@@ -77,11 +101,11 @@ mod tests {
     #[test]
     fn padded_bytes(rt: HostRuntime) -> Result<(), Fail> {
         let mut input = b"\x02\0\0\0abcd\x05\0\0\0abcd".as_slice();
-        let Ok(Some(bytes)) = read_padded(&mut input, rt.alloc(), 4) else {
+        let Ok(Some(bytes)) = read_padded::<_, 4>(&mut input) else {
             return Err(Fail::from("two bytes"));
         };
-        assert_eq!(rt; bytes.as_slice(), b"ab".as_slice());
-        let Ok(none) = read_padded(&mut input, rt.alloc(), 4) else {
+        assert_eq!(rt; bytes.bytes(), b"ab".as_slice());
+        let Ok(none) = read_padded::<_, 4>(&mut input) else {
             return Err(Fail::from("a record"));
         };
         assert!(rt; none.is_none(), "five are too many");

@@ -1,13 +1,13 @@
 // What is read whole or not at all.
-ghost use Rattle.std.specs.Prelude.{IfOk, IfSome, IsNone, IsErrOf, length, vec_len, ◌≡◌, ◌≢◌, ◌≤◌, ◌++◌};
+ghost use Rattle.std.specs.Prelude.{IfOk, IfSome, IsNone, IsErrOf, length, take, ◌≡◌, ◌≢◌, ◌≤◌, ◌++◌};
 ghost use Rattle.std.specs.Int.{w32, to_le_bytes};
 ghost use Rattle.std.specs.List.{flat_map};
 ghost use Rattle.std.specs.Io.KnownBytes.{Consumes};
 ghost use Rattle.streams.specs.declared.read.NoRecord.TheVariants.{Failed, Over};
 ghost use Rattle.streams.specs.Reading.{IsCutShort, IsPadded, IsTooLong};
 
-use crate::read_full;
-use std::alloc::{AllocError, Global};
+use crate::{Part, read_full};
+use std::alloc::AllocError;
 use std::io;
 use std::io::Read;
 
@@ -62,16 +62,6 @@ pub fn read_words<R: Read, const N: usize>(input: &mut R) -> Result<[u32; N], No
     Ok(words)
 }
 
-pub fn read_bytes<R: Read>(input: &mut R, alloc: Global, count: usize) -> Result<Vec<u8>, NoRecord>
-    ensures whole { IfOk result (λ v. Consumes (R.remaining input.old) (R.remaining input.new) v.items) }
-    ensures counts { IfOk result (λ v. vec_len v ≡ count) }
-    ensures over { IsErrOf result Over → IsCutShort (R.remaining input.old) (R.remaining input.new) count }
-{
-    let mut bytes = vec![in alloc; 0; count]?;
-    fill(input, &mut bytes)?;
-    Ok(bytes)
-}
-
 // The whole buffer, or Over where the input ends before that.
 fn fill<R: Read>(input: &mut R, buffer: &mut [u8]) -> Result<(), NoRecord>
     ensures whole { IfOk result (λ _. Consumes (R.remaining input.old) (R.remaining input.new) buffer.new) }
@@ -83,32 +73,27 @@ fn fill<R: Read>(input: &mut R, buffer: &mut [u8]) -> Result<(), NoRecord>
     Ok(())
 }
 
-/// A word n, at most `most`, and n bytes.
-pub fn read_counted<R: Read>(input: &mut R, alloc: Global, most: usize) -> Result<Vec<u8>, NoRecord>
-    ensures counted { IfOk result (λ bytes. Consumes (R.remaining input.old) (R.remaining input.new) (to_le_bytes w32 (vec_len bytes) ++ bytes.items)) }
-    ensures most { IfOk result (λ bytes. vec_len bytes ≤ most) }
+/// A word n, at most as many as there is room for, and n bytes, which go to the room's start.
+pub fn read_counted<R: Read>(input: &mut R, room: &mut [u8]) -> Result<usize, NoRecord>
+    ensures counted { IfOk result (λ n. Consumes (R.remaining input.old) (R.remaining input.new) (to_le_bytes w32 n ++ take n room.new)) }
+    ensures most { IfOk result (λ n. n ≤ length room.new) }
 {
     let count = read_word(input)? as usize;
-    if most < count {
+    if room.len() < count {
         return Err(NoRecord::Over);
     }
-    read_bytes(input, alloc, count)
+    fill(input, &mut room[..count])?;
+    Ok(count)
 }
 
-/// A word n, and `room` bytes that begin with n; None where n is more than there are.
-pub fn read_padded<R: Read>(
+/// A word n, and ROOM bytes that begin with n; None where n is more than there are.
+pub fn read_padded<R: Read, const ROOM: usize>(
     input: &mut R,
-    alloc: Global,
-    room: usize,
-) -> Result<Option<Vec<u8>>, NoRecord>
-    ensures some { IfOk result (λ read. IfSome read (λ bytes. IsPadded (R.remaining input.old) (R.remaining input.new) room bytes.items)) }
-    ensures none { IfOk result (λ read. IsNone read → IsTooLong (R.remaining input.old) (R.remaining input.new) room) }
+) -> Result<Option<Part<ROOM>>, NoRecord>
+    ensures some { IfOk result (λ read. IfSome read (λ part. IsPadded (R.remaining input.old) (R.remaining input.new) ROOM (take part.count part.room))) }
+    ensures none { IfOk result (λ read. IsNone read → IsTooLong (R.remaining input.old) (R.remaining input.new) ROOM) }
 {
     let count = read_word(input)? as usize;
-    let mut bytes = read_bytes(input, alloc, room)?;
-    if room < count {
-        return Ok(None);
-    }
-    bytes.truncate(count);
-    Ok(Some(bytes))
+    let room = read_array(input)?;
+    Ok(Part::first(room, count))
 }

@@ -1,5 +1,5 @@
 // Records, one after another, until the input holds no more.
-ghost use Rattle.std.specs.Prelude.{ℕ, List, Option, Some, None, IfOk, IfSome};
+ghost use Rattle.std.specs.Prelude.{◌≡◌, ℕ, List, Option, Some, None, IfOk, IfSome};
 ghost use Rattle.std.specs.Int.{w32, to_le_bytes};
 ghost use Rattle.std.specs.Iterator.{at_most};
 ghost use Rattle.std.specs.List.{flat_map};
@@ -14,6 +14,11 @@ use std::marker::PhantomData;
 pub trait Record: Sized {
     // The bytes that a record is read from, or None where the type does not say.
     ghost bytes_of: { Self → Option (List ℕ) } = { λ _. None };
+
+    // Whether the input ended with it. It is then asked no more: an input that was at its end may go on, as a terminal's does.
+    fn is_last(&self) -> bool {
+        false
+    }
 
     fn read<R: Read>(input: &mut R, alloc: Global) -> Result<Self, NoRecord>
         ensures { IfOk result (λ x. IfSome (bytes_of x) (Consumes (R.remaining input.old) (R.remaining input.new))) };
@@ -54,6 +59,13 @@ impl<R: Read + Drop, T: Record> Records<R, T> {
             of: PhantomData,
         }
     }
+
+    /// For what follows a record that its own type does not read.
+    pub fn input(&mut self) -> &mut R
+        ensures { result.now ≡ self.old.input }
+    {
+        &mut self.input
+    }
 }
 
 impl<R: Read + Drop, T: Record> Iterator for Records<R, T> {
@@ -70,7 +82,12 @@ impl<R: Read + Drop, T: Record> Iterator for Records<R, T> {
         }
         self.left -= 1;
         match T::read(&mut self.input, self.alloc) {
-            Ok(record) => Some(Ok(record)),
+            Ok(record) => {
+                if record.is_last() {
+                    self.left = 0;
+                }
+                Some(Ok(record))
+            }
             Err(NoRecord::Over) => None,
             Err(NoRecord::Failed(error)) => Some(Err(error)),
         }

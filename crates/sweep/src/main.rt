@@ -13,11 +13,12 @@ use streams::{Part, Records};
 fn main(rt: HostRuntime) -> io::Result<()> {
     let mut out = LineWriter::new(rt.alloc(), io::writer(&rt))?;
     for frame in Records::<_, Part<FRAME>>::new(rt.reader(), rt.alloc()) {
-        let frame = frame?.bytes;
-        if frame.len() < FRAME {
+        let frame = frame?;
+        let bytes = frame.bytes();
+        if bytes.len() < FRAME {
             writeln!(out, "1")?;
         } else {
-            out.write_all(&line_of(&frame))?;
+            out.write_all(&line_of(bytes))?;
         }
     }
     Ok(())

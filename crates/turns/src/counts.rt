@@ -3,7 +3,7 @@ use crate::ran::Ran;
 use crate::rows::{is_momentum, rows_of};
 use std::fmt;
 
-#[derive(Clone, Copy)]
+#[derive(Clone, Copy, Default)]
 pub struct Counts {
     run: usize,
     refused: usize,
@@ -15,16 +15,19 @@ pub struct Counts {
 }
 
 impl Counts {
-    pub fn over(runs: &[Ran]) -> Self {
-        let others = |ran: &&Ran| !is_momentum(ran.turn.source);
-        Counts {
-            run: runs.len(),
-            refused: runs.iter().filter(|ran| ran.refused).count(),
-            stray: runs.iter().filter(|ran| rows_of(ran.turn) != 1).count(),
-            other_than_momentum: runs.iter().filter(others).count(),
-            bounced: runs.iter().filter(others).filter(|ran| ran.bounced).count(),
-        }
+    pub fn add(&mut self, ran: Ran) {
+        let other_than_momentum = !is_momentum(ran.turn.source);
+        count(&mut self.run, true);
+        count(&mut self.refused, ran.refused);
+        count(&mut self.stray, rows_of(ran.turn) != 1);
+        count(&mut self.other_than_momentum, other_than_momentum);
+        count(&mut self.bounced, other_than_momentum && ran.bounced);
     }
+}
+
+// Saturating for the proof: a grid has far fewer turns.
+fn count(counted: &mut usize, is_one: bool) {
+    *counted = counted.saturating_add(usize::from(is_one));
 }
 
 impl fmt::Display for Counts {

@@ -1,7 +1,7 @@
 // The grid of turns: every place with every source, rubber band off and on, parent no and yes, bounced no and yes, two velocities and two dt.
+use crate::found::Found;
 use crate::places::{DELTAS, OFFSETS, Place};
 use axis::WheelSource;
-use std::alloc::{AllocError, Global};
 
 const SOURCES: [Option<WheelSource>; 5] = [
     None,
@@ -25,29 +25,26 @@ pub struct Turn {
     pub dt: f32,
 }
 
-pub fn grid(alloc: Global) -> Result<Vec<Turn>, AllocError> {
-    let mut turns = Vec::new(alloc);
+// Runs every turn.
+pub fn run_grid() -> Found {
+    let mut found = Found::default();
     for offset in OFFSETS {
         for delta in DELTAS {
             for source in SOURCES {
-                add_turns(&mut turns, Place::new(offset, delta), source)?;
+                run_turns(&mut found, Place::new(offset, delta), source);
             }
         }
     }
-    Ok(turns)
+    found
 }
 
-fn add_turns(
-    turns: &mut Vec<Turn>,
-    place: Place,
-    source: Option<WheelSource>,
-) -> Result<(), AllocError> {
+fn run_turns(found: &mut Found, place: Place, source: Option<WheelSource>) {
     for rubber_band in BOTH {
         for parent in BOTH {
             for bounced in BOTH {
                 for vel in [-0.0, 40.0] {
                     for dt in [0.0, 0.015625] {
-                        turns.push(Turn {
+                        let turn = Turn {
                             place,
                             source,
                             rubber_band,
@@ -55,11 +52,11 @@ fn add_turns(
                             bounced,
                             vel,
                             dt,
-                        })?;
+                        };
+                        found.add(turn.run());
                     }
                 }
             }
         }
     }
-    Ok(())
 }

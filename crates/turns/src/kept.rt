@@ -1,6 +1,5 @@
 // What holds of all the turns that were run for a row.
 use crate::ran::Ran;
-use crate::rows::Row;
 
 #[derive(Clone, Copy)]
 pub enum Taken {
@@ -19,63 +18,52 @@ pub enum Leaves {
 
 #[derive(Clone, Copy)]
 pub struct Kept {
-    pub taken: Taken,
-    pub leaves: Leaves,
+    all_taken: bool,
+    none_taken: bool,
+    all_as_given: bool,
+    // The offset inside the bounds and the velocity as given.
+    all_inside: bool,
 }
 
 impl Kept {
-    // None where no turn of the row was run.
-    pub fn over(row: &Row, runs: &[Ran]) -> Option<Self> {
-        let turns = RowTurns { row, runs };
-        if turns.is_empty() {
-            return None;
+    // Of one turn.
+    pub fn of(ran: Ran) -> Self {
+        Kept {
+            all_taken: ran.taken,
+            none_taken: !ran.taken,
+            all_as_given: ran.offset_as_given && ran.velocity_as_given,
+            all_inside: ran.offset_inside && ran.velocity_as_given,
         }
-        Some(Kept {
-            taken: turns.taken(),
-            leaves: turns.leaves(),
-        })
-    }
-}
-
-// Of the turns that were run, those of a row.
-#[derive(Clone, Copy)]
-struct RowTurns<'a> {
-    row: &'a Row,
-    runs: &'a [Ran],
-}
-
-impl RowTurns<'_> {
-    fn is_empty(&self) -> bool {
-        !self.runs.iter().any(|ran| self.row.has(ran.turn))
     }
 
-    fn taken(&self) -> Taken {
-        if self.all(|ran| ran.taken) {
+    // Of these turns and of others.
+    pub fn and(self, others: Kept) -> Self {
+        Kept {
+            all_taken: self.all_taken && others.all_taken,
+            none_taken: self.none_taken && others.none_taken,
+            all_as_given: self.all_as_given && others.all_as_given,
+            all_inside: self.all_inside && others.all_inside,
+        }
+    }
+
+    pub fn taken(self) -> Taken {
+        if self.all_taken {
             Taken::Yes
-        } else if self.all(|ran| !ran.taken) {
+        } else if self.none_taken {
             Taken::No
         } else {
             Taken::Mixed
         }
     }
 
-    fn leaves(&self) -> Leaves {
-        if self.all(|ran| ran.offset_as_given && ran.velocity_as_given) {
+    pub fn leaves(self) -> Leaves {
+        if self.all_as_given {
             Leaves::AsGiven
-        } else if self.all(|ran| ran.offset_inside && ran.velocity_as_given) {
+        } else if self.all_inside {
             Leaves::Inside
         } else {
             Leaves::MayChange
         }
-    }
-
-    fn all<F: Fn(&Ran) -> bool>(&self, holds: F) -> bool
-        requires { F.IsAlwaysCallable holds }
-    {
-        self.runs
-            .iter()
-            .filter(|ran| self.row.has(ran.turn))
-            .all(|ran| holds(ran))
     }
 }
 

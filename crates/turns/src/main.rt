@@ -3,16 +3,15 @@
 #![tactic(auto)]
 
 mod counts;
+mod found;
 mod grid;
 mod kept;
 mod places;
 mod ran;
 mod rows;
 
-use counts::Counts;
-use grid::grid;
+use grid::run_grid;
 use kept::Kept;
-use ran::Ran;
 use rows::{ROWS, Row};
 use std::io::{LineWriter, Write};
 use std::{fmt, io};
@@ -36,8 +35,8 @@ impl fmt::Display for Line<'_> {
         let parent = row.parent.name_of("yes", "no");
         let bounced = row.bounced.name_of("yes", "no");
         write!(f, "| {outside:7} | {parent:6} | {bounced:7} ")?;
-        let taken = kept.map_or("unrun", |kept| kept.taken.name());
-        let leaves = kept.map_or("unrun", |kept| kept.leaves.name());
+        let taken = kept.map_or("unrun", |kept| kept.taken().name());
+        let leaves = kept.map_or("unrun", |kept| kept.leaves().name());
         let by = row.by.name();
         write!(f, "| {taken:5} | {leaves:32} | {by:10} |")
     }
@@ -49,14 +48,10 @@ const HEAD: &str = "\
 
 fn main(rt: HostRuntime) -> io::Result<()> {
     let mut out = LineWriter::new(rt.alloc(), io::writer(&rt))?;
-    let runs: Vec<Ran> = grid(rt.alloc())?
-        .iter()
-        .map(|turn| turn.run())
-        .collect(rt.alloc())?;
+    let found = run_grid();
     writeln!(out, "{HEAD}")?;
-    for row in &ROWS {
-        let kept = Kept::over(row, &runs);
+    for (row, kept) in ROWS.iter().zip(found.kept) {
         writeln!(out, "{}", Line { row, kept })?;
     }
-    writeln!(out, "\n{}", Counts::over(&runs))
+    writeln!(out, "\n{}", found.counts)
 }

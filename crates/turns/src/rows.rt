@@ -56,7 +56,9 @@ const DELTA_ZERO: Row = Row {
     by: By::DeltaZero,
 };
 
-pub const ROWS: [Row; 11] = [
+pub const ROW_COUNT: usize = 11;
+
+pub const ROWS: [Row; ROW_COUNT] = [
     DELTA_ZERO,
     Row {
         rubber_band: Wanted::No,
