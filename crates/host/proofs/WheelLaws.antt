@@ -18,7 +18,7 @@ use Rattle.axis.specs.Call.{wheel_call_of}
 use Rattle.axis.specs.WheelLaw.{WheelHolds}
 use Rattle.axis.specs.declared.wheel.Wheeled.{Wheeled}
 use Rattle.refusals.specs.Refusal.{Answered}
-use Rattle.axis.proofs.WheelLaws.{call_passed, overscroll_is_outside}
+use Rattle.axis.proofs.WheelLaws.{AcceptedHolds, call_holds, call_passed, overscroll_is_outside}
 use Rattle.area.specs.Frame.{word_no, number_no, flag_no, rangef_no}
 use Rattle.area.specs.Parts.{axis_no}
 use Rattle.records.specs.Record.{number_word, flag_word}
@@ -70,15 +70,15 @@ finite_word w small finite = to_bits-of_bits binary32 w small (no_nan (of_bits b
     no_nan x h = subst (λ (b : Bool). T (not b)) (sym (finite_number x h)) tt
 
 -- ---- the law
-module _ (call : List ℕ) (w : Wheeled)
-    (same : ◌≡◌ {A = Answered Wheeled} (record { refusal = 0; value = w })
-    (wheel_call_of (axis_of call) (number_no call 7) (number_no call 8) (scroll_of call) (flag_no call 13))) where
-  pub on_holds : WheelHolds (axis_of call) (number_no call 7) (number_no call 8) (scroll_of call) (flag_no call 13) w
-      → Is32 w.offset → Is32 w.vel → word_no call 7 < 4294967296 → word_no call 8 < 4294967296 → WheelOnHolds call (bytes_of (wheel_words w))
+module _ (call : List ℕ) (a : Answered Wheeled) (same : a ≡ wheel_call_of (axis_of call) (number_no call 7) (number_no call 8) (scroll_of call) (flag_no call 13)) where
+  pub on_holds : a.refusal ≡ 0 → Is32 a.value.offset → Is32 a.value.vel → word_no call 7 < 4294967296 → word_no call 8 < 4294967296
+      → WheelOnHolds call (bytes_of (wheel_words a.value))
   unfolding number_no axis_no rangef_no
-  on_holds holds offset vel small_7 small_8 =
+  on_holds accepted offset vel small_7 small_8 =
+      let w = a.value in
       let out = bytes_of (wheel_words w) in
-      let finite = call_passed _ _ _ _ _ (sym (ap (λ (b : Answered Wheeled). b.refusal) same)) in
+      let finite = call_passed _ _ _ _ _ (sym (ap (λ (b : Answered Wheeled). b.refusal) same) ∙ accepted) in
+      let holds = subst (AcceptedHolds (axis_of call) (number_no call 7) (number_no call 8) (scroll_of call) (flag_no call 13)) (sym same) (call_holds _ _ _ _ _) accepted in
       record {
         law = subst (WheelHolds (axis_of call) (number_no call 7) (number_no call 8) (scroll_of call) (flag_no call 13)) (sym (wheeled_back w offset vel)) holds;
         outside =

@@ -1,4 +1,4 @@
-use Rattle.std.proofs.Common.{ℕ, ◌<◌, get_or, arith, ◌∙◌}
+use Rattle.std.proofs.Common.{ℕ, ◌<◌, get_or, arith, refl, ◌∙◌}
 use Rattle.host.proofs.TypedLaws.{wheeled_is_held}
 use Rattle.host.proofs.WheelLaws.{flag_byte, word_small, on_holds}
 use Rattle.host.proofs.axis_calls.wheeled.Goals as goal
@@ -11,6 +11,5 @@ returns-clause-holds c =
     let typed = rw c.in_ok-wheeled.was at c.wheel.type_inv in
     let held = wheeled_is_held w _ typed.1.1.1.1.0 in
     let same = rw (c.at.ensures, c.at-2.ensures, c.at-3.ensures, c.at-4.ensures, c.at-5.ensures) at c.in_ok-wheeled.ensures.answers in
-    let law = rw (c.at.ensures, c.at-2.ensures, c.at-3.ensures, c.at-4.ensures, c.at-5.ensures) at c.in_ok-wheeled.ensures.holds in
     rw (c.bits.ensures, c.bits-2.ensures, c.from.ensures ∙ flag_byte w.bounced_this_momentum, c.from-2.ensures ∙ flag_byte w.consumed)
-    (on_holds call w same law held.0 held.1 (word_small call bytes 7) (word_small call bytes 8))
+    (on_holds call (record { refusal = 0; value = w }) same refl held.0 held.1 (word_small call bytes 7) (word_small call bytes 8))
