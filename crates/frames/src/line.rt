@@ -1,5 +1,6 @@
 // A line of the listing, a function of its numbers alone.
 ghost use Rattle.std.specs.Prelude.{◌≡◌, Some};
+ghost use Rattle.refusals.specs.Refusal.{number_in};
 ghost use Rattle.frames.specs.Line as Spec;
 
 use listing::{Answer, Bits, Flag, Place};
@@ -95,6 +96,11 @@ impl Line {
 }
 
 impl From<Answer> for Line {
+    ghost from_gives = { λ answer line. line ≡ record {
+      refusal = number_in answer.outputs;
+      place = record { offset = answer.state.offset; vel = answer.state.vel; stuck = answer.state.scroll_stuck_to_end };
+    } };
+
     fn from(answer: Answer) -> Self {
         Line {
             refusal: number(&answer.outputs),

@@ -1,7 +1,8 @@
 // Why a call is refused: documents 01 and 02 give each reason a number.
 #![tactic(auto)]
 
-ghost use Rattle.std.specs.Prelude.{◌≡◌, ℕ, if◌then◌else◌, IfOk, IfErr};
+ghost use Rattle.std.specs.Prelude.{◌≡◌, ℕ, Some, if◌then◌else◌, IfOk, IfErr};
+ghost use Rattle.std.specs.Fmt.{decimal};
 ghost use Rattle.refusals.specs.Refusal as Spec;
 
 use std::error::Error;
@@ -82,7 +83,10 @@ pub fn number<T>(answer: &Result<T, Refusal>) -> u32
     }
 }
 
+// Its number.
 impl fmt::Display for Refusal {
+    ghost output = { λ refusal. Some (decimal (Spec.number_of refusal)) };
+
     fn fmt<W: fmt::Write>(&self, f: &mut fmt::Formatter<W>) -> fmt::Result {
         let number = u32::from(*self);
         write!(f, "{number}")

@@ -1,4 +1,7 @@
 // A stored frame and state, and what the checks answer to them.
+ghost use Rattle.std.specs.Prelude.{◌≡◌};
+ghost use Rattle.area.specs.Sweep as Spec;
+
 use listing::FRAME_ROOM;
 use records::STATE;
 use refusals::{Refusal, number};
@@ -48,9 +51,16 @@ impl Stored {
         let state = records::state_of(&self.state);
         Judged {
             refusal: number(&area::check_before_7(frame.bytes(), state)),
-            bad_word: area::bad_word(frame.bytes()).unwrap_or(0),
+            bad_word: bad_word(frame.bytes()),
         }
     }
+}
+
+// 0 where no word is bad.
+fn bad_word(frame: &[u8]) -> u32
+    ensures { result ≡ Spec.bad_word frame.now }
+{
+    area::bad_word(frame).unwrap_or(0)
 }
 
 impl fmt::Display for Judged {

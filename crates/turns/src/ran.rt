@@ -1,7 +1,8 @@
 // A turn that was run.
 use crate::grid::Turn;
 use crate::places::Place;
-use axis::{AxisPhysics, KineticScrollStyle, WheelScroll, Wheeled};
+use axis::{AxisPhysics, KineticScrollStyle, WheelScroll};
+use listing::Answered;
 use numbers::{Ieee, Rangef};
 
 #[derive(Clone, Copy)]
@@ -26,17 +27,13 @@ impl Turn {
             dt: self.dt,
         };
         let axis = axis_of(self.rubber_band);
-        let answer = axis::call::wheel(axis, offset, self.vel, scroll, self.bounced);
-        // Stays: what was given, here and in replay_axis. A constructor in axis would take the same three.
-        let wheeled = answer.unwrap_or(Wheeled {
-            offset,
-            vel: self.vel,
-            bounced_this_momentum: self.bounced,
-            consumed: false,
-        });
+        let Answered {
+            refusal,
+            value: wheeled,
+        } = listing::wheel(axis, offset, self.vel, scroll, self.bounced);
         Ran {
             turn: self,
-            refused: answer.is_err(),
+            refused: refusal != 0,
             taken: wheeled.consumed,
             bounced: wheeled.bounced_this_momentum,
             offset_as_given: is_same(wheeled.offset, offset),
