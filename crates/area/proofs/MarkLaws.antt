@@ -42,7 +42,7 @@ pub finite_size : (w : ℕ) → w < 2 ^ 32 → eqb w 0x7f80_0000 ≡ false → s
 unfolding shown_of shows2 shows3 shows4 shows5
 finite_size w fits e = rw (finite w fits e) (simp (or_false, and_true) refl)
 
--- no refusal has the number 0, and so no mark of a word that shows one is 0
+-- no refusal has the number 0, and none a number above 15
 pub some_number : (r : Refusal) → number_of r == 0 ≡ false
 some_number Refusal.FrameLength = refl
 some_number Refusal.FlagOrKind = refl

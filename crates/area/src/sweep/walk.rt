@@ -118,5 +118,9 @@ fn counted(count: u32, last: u32, words: u32) -> u32
     if has_ended {
         return count;
     }
-    count + words.min(last - count)
+    let ends = last - count < words;
+    if ends {
+        return last;
+    }
+    count + words
 }
