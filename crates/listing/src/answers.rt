@@ -1,5 +1,9 @@
 // Frames of 416 bytes, one after another from a fresh state, and the answer of each.
+ghost use Rattle.std.specs.Prelude.{◌≡◌, ℕ, List, IfOk, IfSome};
 ghost use Rattle.std.specs.Iterator.{at_most};
+ghost use Rattle.numbers.specs.Table.{table_of};
+ghost use Rattle.area.specs.Outcome.{lent_outcome_in};
+ghost use Rattle.area.specs.Lists.{FrameSays};
 
 use crate::turns::Turns;
 use area::{FRAME, Outputs, State};
@@ -37,6 +41,11 @@ impl<'a, R: Read + Drop> Answers<'a, R> {
 
 impl<R: Read + Drop> Iterator for Answers<'_, R> {
     type Item = io::Result<Answer>;
+
+    // Some frame's by the table, on the state before it.
+    ghost next_gives = { λ s answer t. IfSome answer (λ read. IfOk read (λ a.
+        ((bytes : List ℕ) × FrameSays (table_of s.table.now) s.turns.state bytes (record { state = a.state; outcome = lent_outcome_in s.turns.state a.outputs }))
+        × (t.turns.state ≡ a.state))) };
 
     ghost remaining = { λ s. at_most s.frames.left };
 
