@@ -2,19 +2,19 @@
 ghost use Rattle.std.specs.Prelude.{◌≡◌};
 ghost use Rattle.area.specs.Sweep as Spec;
 
+use area::State;
 use listing::FRAME_ROOM;
 use records::STATE;
 use refusals::{Refusal, number};
 use std::alloc::Global;
 use std::fmt;
 use std::io::Read;
-use streams::{NoRecord, Part, Record, read_array};
+use streams::{NoRecord, Record, read_array};
 
+// A word, the frame's length; bytes that begin with it; the state's record.
 #[derive(Clone, Copy)]
 pub struct Stored {
-    // None where its length is past the bytes.
-    frame: Option<Part<FRAME_ROOM>>,
-    state: [u8; STATE],
+    bytes: [u8; 584],
 }
 
 // Stays: both as the numbers that the line shows, 0 for none. Options would be turned into them where they are written, and nowhere else read.
@@ -27,14 +27,8 @@ pub struct Judged {
 // Read at once.
 impl Record for Stored {
     fn read<R: Read>(input: &mut R, _alloc: Global) -> Result<Self, NoRecord> {
-        let record: [u8; 584] = read_array(input)?;
-        let mut room = [0; FRAME_ROOM];
-        room.copy_from_slice(&record[4..4 + FRAME_ROOM]);
-        let mut state = [0; STATE];
-        state.copy_from_slice(&record[4 + FRAME_ROOM..]);
         Ok(Stored {
-            frame: Part::first(room, words::word_in(&record, 0) as usize),
-            state,
+            bytes: read_array(input)?,
         })
     }
 }
@@ -42,17 +36,23 @@ impl Record for Stored {
 impl Stored {
     // A length past the bytes is a frame of the wrong length too.
     pub fn judged(&self) -> Judged {
-        let Some(frame) = self.frame else {
+        let length = words::word_in(&self.bytes, 0) as usize;
+        let Some(frame) = self.bytes[4..4 + FRAME_ROOM].get(..length) else {
             return Judged {
                 refusal: u32::from(Refusal::FrameLength),
                 bad_word: 0,
             };
         };
-        let state = records::state_of(&self.state);
         Judged {
-            refusal: number(&area::check_before_7(frame.bytes(), state)),
-            bad_word: bad_word(frame.bytes()),
+            refusal: number(&area::check_before_7(frame, self.state())),
+            bad_word: bad_word(frame),
         }
+    }
+
+    fn state(&self) -> State {
+        let mut record = [0; STATE];
+        record.copy_from_slice(&self.bytes[4 + FRAME_ROOM..]);
+        records::state_of(&record)
     }
 }
 
