@@ -46,7 +46,7 @@ fn put_out(state: State, outputs: Result<Outputs, Refusal>) -> [u8; OUTPUTS]
 fn main(rt: HostRuntime) -> io::Result<()> {
     let mut out = LineWriter::new(rt.alloc(), io::writer(&rt))?;
     // By T: no bytes stand for it.
-    for answer in Answers::new(rt.reader(), rt.alloc(), b"") {
+    for answer in Answers::new(rt.reader(), b"") {
         let line = Line(answer?);
         write!(out, "{line}")?;
     }

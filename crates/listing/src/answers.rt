@@ -8,10 +8,9 @@ ghost use Rattle.area.specs.Lists.{FrameSays};
 use crate::turns::Turns;
 use area::{FRAME, Outputs, State};
 use refusals::Refusal;
-use std::alloc::Global;
 use std::io;
 use std::io::Read;
-use streams::{Part, Records};
+use streams::read_full;
 
 /// What a frame answers, and the state after it: as it was where the frame is refused.
 #[derive(Clone, Copy, Debug)]
@@ -23,16 +22,22 @@ pub struct Answer {
 /// A shorter last part is a frame refused with 1.
 #[derive(Drop)]
 pub struct Answers<'a, R> {
-    frames: Records<R, Part<FRAME>>,
+    input: R,
+    // Stays: read into here, and not as a Part of streams. Handed on from call to call, a frame's bytes are copied ten times.
+    room: [u8; FRAME],
+    // Stays: counted down, as in Records.
+    left: u64,
     turns: Turns,
     // Stays: bytes. The calls take bytes of any length, and no bytes stand for T: an Option would be turned into bytes at each call.
     table: &'a [u8],
 }
 
 impl<'a, R: Read + Drop> Answers<'a, R> {
-    pub fn new(input: R, alloc: Global, table: &'a [u8]) -> Self {
+    pub fn new(input: R, table: &'a [u8]) -> Self {
         Answers {
-            frames: Records::new(input, alloc),
+            input,
+            room: [0; FRAME],
+            left: u64::MAX,
             turns: Turns::default(),
             table,
         }
@@ -47,18 +52,27 @@ impl<R: Read + Drop> Iterator for Answers<'_, R> {
         ((bytes : List ℕ) × FrameSays (table_of s.table.now) s.turns.state bytes (record { state = a.state; outcome = lent_outcome_in s.turns.state a.outputs }))
         × (t.turns.state ≡ a.state))) };
 
-    ghost remaining = { λ s. at_most s.frames.left };
+    ghost remaining = { λ s. at_most s.left };
 
     fn next(&mut self) -> Option<io::Result<Answer>> {
-        match self.frames.next()? {
-            Ok(frame) => {
-                let answer = self.turns.frame(frame.bytes(), self.table);
-                Some(Ok(Answer {
-                    state: self.turns.state,
-                    outputs: answer.map(|accepted| accepted.outputs),
-                }))
-            }
-            Err(error) => Some(Err(error)),
+        if self.left == 0 {
+            return None;
         }
+        self.left -= 1;
+        let count = match read_full(&mut self.input, &mut self.room) {
+            Ok(count) => count,
+            Err(error) => return Some(Err(error)),
+        };
+        if count == 0 {
+            return None;
+        }
+        if count < FRAME {
+            self.left = 0;
+        }
+        let answer = self.turns.frame(&self.room[..count], self.table);
+        Some(Ok(Answer {
+            state: self.turns.state,
+            outputs: answer.map(|accepted| accepted.outputs),
+        }))
     }
 }
