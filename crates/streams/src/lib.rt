@@ -54,7 +54,7 @@ mod tests {
 
     impl Read for Terminal {
         fn read(&mut self, buffer: &mut [u8]) -> io::Result<usize> {
-            self.0 += 1;
+            self.0 = self.0.saturating_add(1);
             let count = match self.0 {
                 1 => 2,
                 2 => 0,
