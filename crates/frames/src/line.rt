@@ -14,7 +14,7 @@ pub struct Line {
     pub place: Place,
 }
 
-// The refusal or 0, and where the state stands, in one piece: piece by piece a line takes longer than its frame.
+// The refusal or 0, and where the state stands, in one piece: piece by piece a line takes as many instructions as its frame.
 impl fmt::Display for Line {
     ghost output = { λ line. Some (Spec.line_of line.refusal line.place.offset line.place.vel line.place.stuck) };
 

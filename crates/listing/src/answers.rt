@@ -23,7 +23,7 @@ pub struct Answer {
 #[derive(Drop)]
 pub struct Answers<'a, R> {
     input: R,
-    // Stays: read into here, and not as a Part of streams. Handed on from call to call, a frame's bytes are copied ten times.
+    // Stays: read into here, and not as a Part of streams. Handed on as one, a frame's bytes are copied and cleared twice more.
     room: [u8; FRAME],
     // Stays: counted down, as in Records.
     left: u64,
