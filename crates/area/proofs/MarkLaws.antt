@@ -3,7 +3,7 @@ use Rattle.std.specs.Prelude.{◌≡◌, ℕ, ◌%◌, ◌^◌, ◌<◌, ◌≤�
 use mathlib.Core.Path.{refl, sym, ap, ◌∙◌}
 use native.Mathlib.Omega.{arith}
 use lib.Ieee.{binary32, of_bits, to_bits, lt, le, ne, eq, div}
-use borrow.Author.Tests.{leb-true, le-ltb}
+use borrow.Author.Tests.{eqb-false, leb-true, le-ltb, ne_eqb}
 use Rattle.numbers.specs.F32 as F32
 use Rattle.numbers.specs.Scalar.{is_finite}
 use Rattle.numbers.proofs.NegativeLaws.{word_below_zero}
@@ -13,7 +13,8 @@ use Rattle.area.specs.Layout.{size_or_infinity, points_per_second, size}
 use Rattle.area.specs.Checks.{infinity, shows2, shows3, shows4, shows5}
 use Rattle.refusals.specs.Refusal.{number_of}
 use Rattle.refusals.specs.declared.Refusal.{Refusal}
-use Rattle.area.specs.Marks.{shown_of}
+use Rattle.area.specs.declared.marks.shown.Shown.{Shown}
+use Rattle.area.specs.Marks.{mark_of, shown_of}
 use Rattle.numbers.proofs.TestLaws.{or_false, and_true}
 use Rattle.area.proofs.InfinityLaws.{word_not_infinity}
 
@@ -59,6 +60,10 @@ some_number Refusal.Clock = refl
 some_number Refusal.NoDrawer = refl
 some_number Refusal.NoEntry = refl
 some_number Refusal.DrawerFull = refl
+
+-- so that no mark of a word that shows one is 0
+pub some_mark : (m : Shown) → mark_of m == 0 ≡ false
+some_mark m = ne_eqb (mark_of m) 0 (λ z. eqb-false (number_of m.refusal) 0 (some_number m.refusal) (omega (arith, z)))
 
 pub at_most_15 : (r : Refusal) → number_of r ≤ 15
 at_most_15 Refusal.FrameLength = omega arith

@@ -3,7 +3,7 @@ use listing::FRAME_ROOM;
 use records::STATE;
 use std::alloc::Global;
 use std::io::Read;
-use streams::{NoRecord, Part, Record, read_array, read_padded, read_word};
+use streams::{NoRecord, Part, Record, read_array, read_padded_part, read_word};
 
 // What follows a load, a run or a frame the panel reads: it is long, and a call is copied.
 #[derive(Clone, Copy)]
@@ -52,7 +52,7 @@ impl Record for Call {
 
 // What follows a frame that is too long is read too.
 pub fn read_run<R: Read>(input: &mut R) -> Result<Run, NoRecord> {
-    let frame = read_padded(input)?;
+    let frame = read_padded_part(input)?;
     let state = read_array(input)?;
     let run = read_array(input)?;
     let used = read_array(input)?;
@@ -66,5 +66,5 @@ pub fn read_run<R: Read>(input: &mut R) -> Result<Run, NoRecord> {
 
 // A word, the frame's length, and 424 bytes that begin with the frame.
 pub fn read_frame<R: Read>(input: &mut R) -> Result<Part<FRAME_ROOM>, NoRecord> {
-    read_padded(input)?.ok_or(NoRecord::Over)
+    read_padded_part(input)?.ok_or(NoRecord::Over)
 }

@@ -9,7 +9,10 @@ mod read;
 mod records;
 
 pub use part::Part;
-pub use read::{NoRecord, read_array, read_counted, read_padded, read_word, read_words};
+pub use read::{
+    NoRecord, read_array, read_bytes, read_counted, read_padded, read_padded_part, read_word,
+    read_words,
+};
 pub use records::{Record, Records};
 use std::io;
 use std::io::Read;
@@ -99,13 +102,41 @@ mod tests {
     }
 
     #[test]
+    fn bytes_are_read_whole(rt: HostRuntime) -> Result<(), Fail> {
+        let mut input = b"abcde".as_slice();
+        let Ok(bytes) = read_bytes(&mut input, rt.alloc(), 3) else {
+            return Err(Fail::from("three bytes"));
+        };
+        assert_eq!(rt; bytes.as_slice(), b"abc".as_slice());
+        assert!(rt;
+            read_bytes(&mut input, rt.alloc(), 3).is_err(),
+            "two are left"
+        );
+        Ok(())
+    }
+
+    #[test]
     fn padded_bytes(rt: HostRuntime) -> Result<(), Fail> {
         let mut input = b"\x02\0\0\0abcd\x05\0\0\0abcd".as_slice();
-        let Ok(Some(bytes)) = read_padded::<_, 4>(&mut input) else {
+        let Ok(Some(bytes)) = read_padded(&mut input, rt.alloc(), 4) else {
+            return Err(Fail::from("two bytes"));
+        };
+        assert_eq!(rt; bytes.as_slice(), b"ab".as_slice());
+        let Ok(none) = read_padded(&mut input, rt.alloc(), 4) else {
+            return Err(Fail::from("a record"));
+        };
+        assert!(rt; none.is_none(), "five are too many");
+        Ok(())
+    }
+
+    #[test]
+    fn padded_parts(rt: HostRuntime) -> Result<(), Fail> {
+        let mut input = b"\x02\0\0\0abcd\x05\0\0\0abcd".as_slice();
+        let Ok(Some(bytes)) = read_padded_part::<_, 4>(&mut input) else {
             return Err(Fail::from("two bytes"));
         };
         assert_eq!(rt; bytes.bytes(), b"ab".as_slice());
-        let Ok(none) = read_padded::<_, 4>(&mut input) else {
+        let Ok(none) = read_padded_part::<_, 4>(&mut input) else {
             return Err(Fail::from("a record"));
         };
         assert!(rt; none.is_none(), "five are too many");

@@ -1,5 +1,5 @@
 // What is read whole or not at all.
-ghost use Rattle.std.specs.Prelude.{IfOk, IfSome, IsNone, IsErrOf, length, take, ◌≡◌, ◌≢◌, ◌≤◌, ◌++◌};
+ghost use Rattle.std.specs.Prelude.{IfOk, IfSome, IsNone, IsErrOf, length, take, vec_len, ◌≡◌, ◌≢◌, ◌≤◌, ◌++◌};
 ghost use Rattle.std.specs.Int.{w32, to_le_bytes};
 ghost use Rattle.std.specs.List.{flat_map};
 ghost use Rattle.std.specs.Io.KnownBytes.{Consumes};
@@ -7,7 +7,7 @@ ghost use Rattle.streams.specs.declared.read.NoRecord.TheVariants.{Failed, Over}
 ghost use Rattle.streams.specs.Reading.{IsCutShort, IsPadded, IsTooLong};
 
 use crate::{Part, read_full};
-use std::alloc::AllocError;
+use std::alloc::{AllocError, Global};
 use std::io;
 use std::io::Read;
 
@@ -62,6 +62,17 @@ pub fn read_words<R: Read, const N: usize>(input: &mut R) -> Result<[u32; N], No
     Ok(words)
 }
 
+/// As many bytes, on the heap.
+pub fn read_bytes<R: Read>(input: &mut R, alloc: Global, count: usize) -> Result<Vec<u8>, NoRecord>
+    ensures whole { IfOk result (λ v. Consumes (R.remaining input.old) (R.remaining input.new) v.items) }
+    ensures counts { IfOk result (λ v. vec_len v ≡ count) }
+    ensures over { IsErrOf result Over → IsCutShort (R.remaining input.old) (R.remaining input.new) count }
+{
+    let mut bytes = vec![in alloc; 0; count]?;
+    fill(input, &mut bytes)?;
+    Ok(bytes)
+}
+
 // The whole buffer, or Over where the input ends before that.
 fn fill<R: Read>(input: &mut R, buffer: &mut [u8]) -> Result<(), NoRecord>
     ensures whole { IfOk result (λ _. Consumes (R.remaining input.old) (R.remaining input.new) buffer.new) }
@@ -86,8 +97,26 @@ pub fn read_counted<R: Read>(input: &mut R, room: &mut [u8]) -> Result<usize, No
     Ok(count)
 }
 
-/// A word n, and ROOM bytes that begin with n; None where n is more than there are.
-pub fn read_padded<R: Read, const ROOM: usize>(
+/// A word n, and `room` bytes that begin with n; None where n is more than there are.
+pub fn read_padded<R: Read>(
+    input: &mut R,
+    alloc: Global,
+    room: usize,
+) -> Result<Option<Vec<u8>>, NoRecord>
+    ensures some { IfOk result (λ read. IfSome read (λ bytes. IsPadded (R.remaining input.old) (R.remaining input.new) room bytes.items)) }
+    ensures none { IfOk result (λ read. IsNone read → IsTooLong (R.remaining input.old) (R.remaining input.new) room) }
+{
+    let count = read_word(input)? as usize;
+    let mut bytes = read_bytes(input, alloc, room)?;
+    if room < count {
+        return Ok(None);
+    }
+    bytes.truncate(count);
+    Ok(Some(bytes))
+}
+
+/// The same of ROOM bytes, into an array.
+pub fn read_padded_part<R: Read, const ROOM: usize>(
     input: &mut R,
 ) -> Result<Option<Part<ROOM>>, NoRecord>
     ensures some { IfOk result (λ read. IfSome read (λ part. IsPadded (R.remaining input.old) (R.remaining input.new) ROOM (take part.count part.room))) }
