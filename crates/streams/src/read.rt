@@ -62,7 +62,7 @@ pub fn read_words<R: Read, const N: usize>(input: &mut R) -> Result<[u32; N], No
     Ok(words)
 }
 
-/// As many bytes, on the heap.
+/// `count` bytes, on the heap.
 pub fn read_bytes<R: Read>(input: &mut R, alloc: Global, count: usize) -> Result<Vec<u8>, NoRecord>
     ensures whole { IfOk result (λ v. Consumes (R.remaining input.old) (R.remaining input.new) v.items) }
     ensures counts { IfOk result (λ v. vec_len v ≡ count) }
